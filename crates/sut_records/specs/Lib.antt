@@ -1,0 +1,4 @@
+pub mod RecordList
+pub mod FirstFault
+pub mod RowText
+pub mod Plain

@@ -1,0 +1,4 @@
+pub mod Keeping
+pub mod NumberLemmas
+pub mod Spelling
+mod WorkedNumbers

@@ -1,0 +1,117 @@
+//! Numbers, fields and labels as texts. After want of memory each appending call leaves `out` as it was.
+#![tactic(auto)]
+
+ghost use Rattle.std.specs.Prelude.{◌≡◌, ◌++◌, ◌∷◌, [], if◌then◌else◌, is_ok, take, length, OnOk};
+ghost use Rattle.sut_text.specs.Text.{whole_text, optional_text, field_text, needs_quotes, quoted_text, Appends, Keeps};
+
+pub mod fields;
+pub mod labels;
+pub mod numbers;
+
+use itoa::Buffer;
+pub use labels::Label;
+use no_memory::NoMemory;
+pub use numbers::{NumberFault, read_whole};
+
+/// Appends bytes.
+pub fn put_bytes(out: &mut Vec<u8>, bytes: &[u8]) -> Result<(), NoMemory>
+    ensures { Appends out.old.items out.new.items (is_ok result) bytes.now }
+{
+    match out.extend_from_slice(bytes) {
+        Ok(()) => Ok(()),
+        Err(_) => Err(NoMemory),
+    }
+}
+
+/// Appends one byte.
+pub fn put_byte(out: &mut Vec<u8>, byte: u8) -> Result<(), NoMemory>
+    ensures { Appends out.old.items out.new.items (is_ok result) (byte ∷ []) }
+{
+    match out.push(byte) {
+        Ok(()) => Ok(()),
+        Err(_) => Err(NoMemory),
+    }
+}
+
+/// Appends the one spelling of a whole number.
+pub fn put_whole(out: &mut Vec<u8>, n: i128) -> Result<(), NoMemory>
+    ensures { Appends out.old.items out.new.items (is_ok result) (whole_text n) }
+{
+    let mut buffer = Buffer::new();
+    put_bytes(out, buffer.format(n).as_bytes())
+}
+
+fn needs_quotes(field: &[u8]) -> bool
+    ensures { result ≡ needs_quotes field.now }
+{
+    field.iter().any(|b| *b == b',' || (*b == b'"' || (*b == b'\r' || *b == b'\n')))
+}
+
+fn put_in_quotes(out: &mut Vec<u8>, field: &[u8]) -> Result<(), NoMemory>
+    ensures done { OnOk result (out.new.items ≡ out.old.items ++ quoted_text field.now) }
+    ensures kept { Keeps out.old.items out.new.items }
+{
+    put_byte(out, b'"')?;
+    for b in field {
+        if *b == b'"' {
+            put_byte(out, b'"')?;
+        }
+        put_byte(out, *b)?;
+    }
+    put_byte(out, b'"')
+}
+
+/// Appends a field, in quotes exactly where a byte of it is a comma, a quote, CR or LF.
+pub fn put_field(out: &mut Vec<u8>, field: &[u8]) -> Result<(), NoMemory>
+    ensures { Appends out.old.items out.new.items (is_ok result) (field_text field.now) }
+{
+    if !needs_quotes(field) {
+        return put_bytes(out, field);
+    }
+    let start = out.len();
+    match put_in_quotes(out, field) {
+        Ok(()) => Ok(()),
+        Err(NoMemory) => {
+            out.truncate(start);
+            Err(NoMemory)
+        }
+    }
+}
+
+#[cfg(test)]
+mod tests {
+    use super::fields::{Field, put_line};
+    use super::*;
+    use std::test::Fail;
+
+    #[test]
+    fn appends_behind_what_is_there(rt: HostRuntime) -> Result<(), Fail> {
+        let mut out = Vec::from_slice(rt.alloc(), b"a:")?;
+        put_whole(&mut out, -1000)?;
+        put_field(&mut out, b",plain")?;
+        put_field(&mut out, b"said \"x\"")?;
+        assert_eq!(rt;
+            out.as_slice(),
+            b"a:-1000\",plain\"\"said \"\"x\"\"\"".as_slice()
+        );
+        Ok(())
+    }
+
+    #[test]
+    fn a_line_of_fields(rt: HostRuntime) -> Result<(), Fail> {
+        let mut out = Vec::new(rt.alloc());
+        put_line(
+            &mut out,
+            &[
+                Field::Text(b"make"),
+                Field::Empty,
+                Field::Tagged(b"tax", b"VAT"),
+                Field::Numbered(b'P', 3),
+                Field::Count(7),
+                Field::Whole(-5),
+            ],
+        )?;
+        assert_eq!(rt; out.as_slice(), b"make,,tax:VAT,P3,7,-5\n".as_slice());
+        Ok(())
+    }
+}
