@@ -141,11 +141,7 @@ mod tests {
     use std::test::Fail;
 
     #[test]
-    fn a_real_file_reads_back(rt: HostRuntime) -> Result<(), Fail> {
-        let mut shelf = FolderShelf::new(&rt, String::from_str(rt.alloc(), "/tmp")?);
-        shelf.write(FileName::Classes2Csv, b"axis\n")?;
-        let bytes = shelf.read(FileName::Classes2Csv)?;
-        assert_eq!(rt; bytes.as_slice(), b"axis\n".as_slice());
+    fn a_folder_that_is_not_there(rt: HostRuntime) -> Result<(), Fail> {
         let mut nowhere = FolderShelf::new(&rt, String::from_str(rt.alloc(), "/nowhere")?);
         assert_eq!(rt;
             nowhere.read(FileName::Classes2Csv),
