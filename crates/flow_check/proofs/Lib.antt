@@ -1,0 +1,7 @@
+pub mod Cuts
+pub mod Refutes
+pub mod Shown
+pub mod Sums
+pub mod Touching
+pub mod WeakDuality
+pub mod Worked

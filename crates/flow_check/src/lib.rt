@@ -1,0 +1,10 @@
+//! Checks that numbers on the arcs of a graph are a circulation of least cost, and that a set of nodes shows that there is
+//! no circulation.
+#![tactic(auto)]
+
+mod checks;
+pub mod laws;
+#[cfg(test)]
+mod tests;
+
+pub use checks::{contradicts, shows_least};

@@ -1,0 +1,7 @@
+pub mod Convex
+pub mod Halving
+pub mod Line
+pub mod Nearest
+pub mod Paying
+pub mod Pushed
+pub mod Rounding

@@ -1,0 +1,12 @@
+//! Convex costs of a whole number, and where a number settles under one.
+#![tactic(auto)]
+
+mod costs;
+mod losses;
+mod settling;
+#[cfg(test)]
+mod tests;
+
+pub use costs::{Cost, Either, Free, Linear};
+pub use losses::{Absolute, Band, Square};
+pub use settling::settle;

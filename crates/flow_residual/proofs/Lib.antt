@@ -1,0 +1,9 @@
+pub mod Along
+pub mod Augmented
+pub mod Casts
+pub mod Changes
+pub mod Closed
+pub mod Excesses
+pub mod Kept
+pub mod Settles
+pub mod Slopes

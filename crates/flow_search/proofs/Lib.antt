@@ -1,0 +1,4 @@
+pub mod Endings
+pub mod Labelled
+pub mod Touching
+pub mod Ways

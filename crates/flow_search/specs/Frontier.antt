@@ -1,0 +1,58 @@
+-- What the four functions of a frontier do to the labels.
+use Rattle.std.specs.Prelude.{◌≡◌, ℕ, ◌<◌, Bool, true, false, List, ℤ, pos, negsuc, ◌≤ℤ◌, ◌<ℤ◌, ◌⊎◌, Option, Some, None, replicate, slice_set, slice_index_or}
+use Rattle.flow_graph.specs.declared.arcs.ArcId.{ArcId}
+use Rattle.flow_graph.specs.Contradiction.{in_set}
+use Rattle.flow_search.specs.Labels.{Labels, distance, IsReached, IsDone}
+
+-- nothing is settled, and the source alone is reached
+abbrev pub at_start : ℕ → ℕ → Labels
+at_start nodes source = record {
+  source = source;
+  set = replicate nodes false;
+  dist = slice_set (replicate nodes (negsuc 0)) source (pos 0);
+  by = replicate nodes None;
+}
+
+abbrev pub with_settled : Labels → ℕ → Labels
+with_settled l u = record l { set = slice_set l.set u true }
+
+abbrev pub with_offer : Labels → ℕ → ℤ → ArcId → Labels
+with_offer l v d a = record l { dist = slice_set l.dist v d; by = slice_set l.by v (Some a) }
+
+-- the node was nearest among those reached and not settled, and is settled now
+pub record Takes (old new : Labels) (u : ℕ) : Type 0 where
+  pub waiting : in_set old.set u ≡ false
+  pub reached : IsReached old u
+  pub nearest : (v : ℕ) → IsReached old v → in_set old.set v ≡ false → distance old u ≤ℤ distance old v
+  pub new_is : new ≡ with_settled old u
+
+-- every reached node was settled
+pub record TakesNone (old new : Labels) : Type 0 where
+  pub all_done : (v : ℕ) → IsReached old v → IsDone old v
+  pub new_is : new ≡ old
+
+-- the node is no further than the offer
+pub record Declines (old new : Labels) (v : ℕ) (d : ℤ) : Type 0 where
+  pub reached : IsReached old v
+  pub nearer : distance old v ≤ℤ d
+  pub new_is : new ≡ old
+
+-- it was further, or not reached
+pub record Accepts (old new : Labels) (v : ℕ) (d : ℤ) (a : ArcId) : Type 0 where
+  pub further : IsReached old v → d <ℤ distance old v
+  pub new_is : new ≡ with_offer old v d a
+
+-- reached, and not settled
+pub record IsWaiting (set : List Bool) (dist : List ℤ) (v : ℕ) : Type 0 where
+  pub apart : in_set set v ≡ false
+  pub reached : pos 0 ≤ℤ slice_index_or dist v (negsuc 0)
+
+-- the nearest of the waiting nodes below n, or none where none waits
+abbrev pub IsBest : List Bool → List ℤ → ℕ → Option ℕ → Type 0
+IsBest set dist n None = (v : ℕ) → v < n → IsWaiting set dist v → ⊥
+IsBest set dist n (Some u) =
+    (u < n) × IsWaiting set dist u × ((v : ℕ) → v < n → IsWaiting set dist v → slice_index_or dist u (negsuc 0) ≤ℤ slice_index_or dist v (negsuc 0))
+
+-- how far the potential of a node is raised where a path is found at a distance
+abbrev pub IsGain : ℤ → ℤ → ℤ → Type 0
+IsGain d top gain = ((gain ≡ top) × ((d <ℤ pos 0) ⊎ (top <ℤ d))) ⊎ ((gain ≡ d) × (pos 0 ≤ℤ d) × (d ≤ℤ top))

@@ -1,0 +1,8 @@
+//! A least circulation with potentials that show it, or a set that shows that there is none.
+#![tactic(auto)]
+
+mod advancing;
+mod nearing;
+mod solving;
+
+pub use solving::{Outcome, solve};
