@@ -1,0 +1,21 @@
+-- What `State::new` requires: one cost for each arc, and bounds within the span of a square.
+use Rattle.std.proofs.Common.{◌≡◌, ◌<◌, ◌*◌, ◌^◌, ◌∙◌, pos, ℕ, List, Option, Some, length, get_or, slice_get, arith, rules, inl, inr, subst, sym}
+use Rattle.std.specs.Prelude.{All}
+use Rattle.std.proofs.lemmas.Option.{slice_get_cases}
+use Rattle.flow_cost.specs.Cost.{IsWithin}
+use Rattle.flow_graph.specs.declared.arcs.Arc.{Arc}
+use Rattle.flow_graph.proofs.Lookups.{read_once}
+use Rattle.flow_trials.proofs.tests.solved.Goals as goal
+
+-- what holds of each element holds of the one that is read
+read_from_all : {X : Type 0} (P : X → Type 0) (xs : List X) (k : ℕ) (x : X) → All P xs → slice_get xs k ≡ Some x → P x
+read_from_all P xs k x all there = elim (slice_get_cases xs k).1 [
+  | inl h ↦ let same : h.0 ≡ x = read_once xs k h.0 x h.2 there in subst P (h.3 ∙ same) (all k h.0 h.1)
+  | inr h ↦ absurd cc
+]
+
+pub new-requires : goal.new-requires
+new-requires g c = record {
+  counted = search rules;
+  within = λ a arc cost there cost_there. read_from_all (λ (b : Arc). IsWithin (pos (10 ^ 12)) b.lo × IsWithin (pos (10 ^ 12)) b.hi) c.graph_of-graph.result.arcs a arc c.assert_spans.ensures there;
+}

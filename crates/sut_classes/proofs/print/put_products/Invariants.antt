@@ -1,0 +1,8 @@
+use Rattle.std.proofs.Common.{◌≡◌, ◌++◌, map, take}
+use Rattle.std.specs.List.{flat_map}
+use Rattle.sut_text.specs.Text.{line_text}
+use Rattle.sut_classes.specs.ClassText.{product_line}
+use Rattle.sut_classes.proofs.print.put_products.Given as goal
+
+abbrev pub invariant-loop-place : goal.invariant-loop-place
+invariant-loop-place l = l.out.items ≡ l.initial.out.items ++ flat_map line_text (map (product_line l.classes) (take l.place l.classes.products))

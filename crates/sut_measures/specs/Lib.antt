@@ -1,0 +1,9 @@
+pub mod Keys
+pub mod Fits
+pub mod Sums
+pub mod Ends
+pub mod Names
+pub mod ReadNames
+pub mod Words
+pub mod Kinds
+pub mod DistinctCodes

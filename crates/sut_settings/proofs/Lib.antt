@@ -1,0 +1,4 @@
+pub mod GradeLemmas
+pub mod PlaceLemmas
+pub mod ReadLemmas
+mod WorkedSettings

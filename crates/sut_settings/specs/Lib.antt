@@ -1,0 +1,4 @@
+pub mod SettingsFacts
+pub mod SettingsFile
+pub mod IsSettings
+pub mod SettingsView
