@@ -1,0 +1,4 @@
+pub mod GradeLemmas
+pub mod RowLemmas
+pub mod LinedLemmas
+pub mod SourceLemmas

@@ -1,0 +1,4 @@
+pub mod RowFile
+pub mod RowRules
+pub mod SourceFile
+pub mod LinedRows

@@ -1,0 +1,18 @@
+-- The number that each status ends a program with.
+use Rattle.std.specs.Prelude.{ℕ}
+use Rattle.sut_status.specs.declared.statuses.Status.{Status}
+use Rattle.sut_status.specs.declared.statuses.Status.TheVariants as status
+
+abbrev pub code : Status → ℕ
+code status.Balanced = 0
+code status.NoMemory = 1
+code status.Usage = 2
+code status.Infeasible = 3
+code (status.BadSettings e) = 5
+code (status.BadClasses e) = 6
+code (status.BadSource e) = 7
+code (status.ReadFault n) = 10
+code (status.WriteFault n) = 11
+code (status.Missing n) = 12
+code status.SinkFault = 13
+code (status.TooLong n) = 14

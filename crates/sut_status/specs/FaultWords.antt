@@ -1,0 +1,75 @@
+-- What is wrong with a file, in words: the variant's name in lower case with dashes, and then what it carries.
+use Rattle.std.specs.Prelude.{ℕ, List, [], ◌∷◌, codes, decimal}
+use Rattle.sut_classes.specs.declared.ids.Axis.{Axis}
+use Rattle.sut_classes.specs.declared.ids.Axis.TheVariants as axis
+use Rattle.sut_measures.specs.declared.faults.Field.{Field}
+use Rattle.sut_measures.specs.declared.faults.Field.TheVariants as field
+use Rattle.sut_classes.specs.declared.faults.ClassFault.{ClassFault}
+use Rattle.sut_classes.specs.declared.faults.ClassFault.TheVariants as class
+use Rattle.sut_settings.specs.declared.SettingsFault.{SettingsFault}
+use Rattle.sut_settings.specs.declared.SettingsFault.TheVariants as settings
+use Rattle.sut_source.specs.declared.faults.RowFault.{RowFault}
+use Rattle.sut_source.specs.declared.faults.RowFault.TheVariants as row
+
+-- the word of an axis
+abbrev pub axis_word : Axis → List ℕ
+axis_word axis.Product = codes "product"
+axis_word axis.Industry = codes "industry"
+axis_word axis.Final = codes "final"
+axis_word axis.Item = codes "item"
+axis_word axis.Margin = codes "margin"
+axis_word axis.Tax = codes "tax"
+axis_word axis.ProductGroup = codes "product_group"
+axis_word axis.IndustryGroup = codes "industry_group"
+
+-- the name of a field's column
+abbrev pub field_word : Field → List ℕ
+field_word field.Kind = codes "kind"
+field_word field.A = codes "a"
+field_word field.B = codes "b"
+field_word field.C = codes "c"
+field_word field.Target = codes "target"
+field_word field.Grade = codes "grade"
+field_word field.Lower = codes "lower"
+field_word field.Upper = codes "upper"
+
+-- a fault of the classes; its line stands before it
+abbrev pub class_words : ClassFault → List (List ℕ)
+class_words (class.Csv n) = codes "csv" ∷ []
+class_words class.Header = codes "header" ∷ []
+class_words (class.UnknownAxis n) = codes "unknown-axis" ∷ []
+class_words (class.BadCode n) = codes "bad-code" ∷ []
+class_words (class.UnknownKind n) = codes "unknown-kind" ∷ []
+class_words (class.UnknownGroup n) = codes "unknown-group" ∷ []
+class_words (class.Duplicate n) = codes "duplicate" ∷ []
+class_words (class.TooMany a) = codes "too-many" ∷ axis_word a ∷ []
+class_words class.NoMemory = codes "no-memory" ∷ []
+
+-- a fault of the settings; its number counts keys
+abbrev pub settings_words : SettingsFault → List (List ℕ)
+settings_words settings.Toml = codes "toml" ∷ []
+settings_words (settings.UnknownKey n) = codes "unknown-key" ∷ decimal n ∷ []
+settings_words settings.NoScheme = codes "no-scheme" ∷ []
+settings_words settings.BadScheme = codes "bad-scheme" ∷ []
+settings_words settings.BadGrades = codes "bad-grades" ∷ []
+settings_words settings.TooMany = codes "too-many" ∷ []
+settings_words (settings.BadGrade n) = codes "bad-grade" ∷ decimal n ∷ []
+settings_words settings.NoMemory = codes "no-memory" ∷ []
+
+-- a fault of a row
+abbrev pub row_words : RowFault → List (List ℕ)
+row_words row.Csv = codes "csv" ∷ []
+row_words row.Header = codes "header" ∷ []
+row_words row.UnknownKind = codes "unknown-kind" ∷ []
+row_words (row.UnknownCode f) = codes "unknown-code" ∷ field_word f ∷ []
+row_words (row.NotEmpty f) = codes "not-empty" ∷ field_word f ∷ []
+row_words row.WrongService = codes "wrong-service" ∷ []
+row_words (row.NotNumber f) = codes "not-number" ∷ field_word f ∷ []
+row_words (row.OutOfRange f) = codes "out-of-range" ∷ field_word f ∷ []
+row_words row.UnknownGrade = codes "unknown-grade" ∷ []
+row_words row.BadPenalty = codes "bad-penalty" ∷ []
+row_words row.NoTarget = codes "no-target" ∷ []
+row_words row.Crossed = codes "crossed" ∷ []
+row_words (row.Duplicate n) = codes "duplicate" ∷ decimal n ∷ []
+row_words row.TooMany = codes "too-many" ∷ []
+row_words row.NoMemory = codes "no-memory" ∷ []

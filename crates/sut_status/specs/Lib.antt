@@ -1,0 +1,3 @@
+pub mod Codes
+pub mod FaultWords
+pub mod StatusLines

@@ -1,0 +1,8 @@
+//! How a run ends: its status, the number that a program ends with, and the line that it prints on standard error.
+#![tactic(auto)]
+
+pub mod faults;
+pub mod places;
+pub mod statuses;
+
+pub use statuses::Status;
