@@ -1,0 +1,15 @@
+use Rattle.std.proofs.Common.{rules, ◌≡◌, ◌<◌, length, Some, refl, sym, ◌∙◌, ap, subst, arith, to_z, of_z}
+use mir.Syntax.{w128}
+use Rattle.std.proofs.lemmas.Int.{ints}
+use Rattle.std.proofs.lemmas.Option.{slice_get_read}
+use Rattle.sut_balance.proofs.ByAccount.{potentials-more}
+use Rattle.sut_balance.proofs.by_account.potentials_of.Goals as goal
+
+pub loop-n-preserved : goal.loop-n-preserved
+loop-n-preserved c =
+    let same : to_z w128 (of_z w128 c.potential-potential.result) ≡ c.potential-potential.result = omega (arith, ints, c.potential-potential.type_inv) in
+    let nodes = c.args.c.now.accounts.items in
+    let pushed = c.in_ok-push.ensures.items in
+    potentials-more nodes c.args.c.now.state.potentials c.loop-n.n _ (to_z w128 (of_z w128 c.potential-potential.result)) c.loop-n.pairs.items c.push.new.self.items
+    (slice_get_read nodes (length nodes) c.loop-n.n _ refl (omega (arith, c.deref-account-items.ensures.len)) (search rules))
+    (c.potential-potential.ensures ∙ ap Some (sym same)) c.loop-n.invariant pushed

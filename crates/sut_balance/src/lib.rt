@@ -1,0 +1,11 @@
+//! The answer to a problem: a least table with potentials that show it, or a set of accounts that shows that no table is
+//! admissible.
+#![tactic(auto)]
+
+pub mod balancing;
+mod by_account;
+#[cfg(test)]
+mod tests;
+
+pub use balancing::{balance, balance_in};
+pub use sut_cert::Answer;

@@ -1,0 +1,19 @@
+pub mod Rows
+pub mod Cuts
+pub mod Convex
+pub mod Least
+pub mod Ascents
+pub mod AccountSearch
+pub mod ClassFacts
+pub mod Ranges
+pub mod Passed
+pub mod LineLemmas
+pub mod FileLemmas
+pub mod Spelled
+pub mod PlainLines
+pub mod ReadBack
+pub mod PrintLemmas
+pub mod SetSums
+pub mod FewAccounts
+pub mod TextLength
+mod WorkedFiles

@@ -1,0 +1,5 @@
+pub mod Certificates
+pub mod CertificateFile
+pub mod CertificateText
+pub mod Right
+pub mod Laws

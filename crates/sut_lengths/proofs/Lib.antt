@@ -1,0 +1,3 @@
+pub mod FileLengths
+pub mod NameLengths
+pub mod TableLengths

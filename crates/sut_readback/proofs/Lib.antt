@@ -1,0 +1,13 @@
+pub mod ListSteps
+pub mod LiveParts
+pub mod CellsFirst
+pub mod LineLemmas
+pub mod FileLemmas
+pub mod Spelled
+pub mod LineParts
+pub mod Belongs
+pub mod ClassLemmas
+pub mod Bounds
+pub mod PlainLines
+pub mod ReadBack
+pub mod OneList

@@ -1,0 +1,3 @@
+pub mod BalancedText
+pub mod BalancedFile
+pub mod ReadingView

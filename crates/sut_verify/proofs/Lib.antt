@@ -1,0 +1,5 @@
+pub mod Shown
+pub mod Walks
+pub mod SlopeSigns
+pub mod FoundRows
+mod VerdictRows
