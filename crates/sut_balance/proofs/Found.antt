@@ -1,5 +1,5 @@
 -- What was found on the circuit of a problem is right for the problem.
-use Rattle.std.proofs.Common.{◌≡◌, ◌*◌, ◌^◌, ℕ, ℤ, pos, List, Bool, length, Option, Some, None, true, refl, sym, subst}
+use Rattle.std.proofs.Common.{◌≡◌, ◌^◌, ℕ, ℤ, pos, List, Bool, length, Option, Some, None, refl, sym, subst}
 use Rattle.std.specs.Prelude.{IfNone, IfSome, IsSome}
 use Rattle.sut_measures.specs.declared.accounts.Account.{Account}
 use Rattle.sut_measures.specs.declared.measures.Measure.{Measure}

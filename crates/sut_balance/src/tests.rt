@@ -19,11 +19,18 @@ const BASIC: Measure = Measure::Cell(Cell::Basic(ProductId(0), Column::Final(Fin
 
 const ADDED: Measure = Measure::Cell(Cell::Added(ItemId(0), IndustryId(0)));
 
-fn add(rt: &impl Abort, problem: &mut Problem, row: Option<Row>) -> Result<(), Fail> {
-    let row = row.ok_or("a row")?;
-    assert!(rt; fits(problem.classes(), row.measure()));
-    assert!(rt; problem.add(row).is_ok());
-    Ok(())
+/// A row's measure, target, penalty, weight and bounds.
+type RowCase = (Measure, Option<i64>, Penalty, u32, i64, i64);
+
+fn problem_of(rt: &impl Abort, alloc: Global, rows: &[RowCase]) -> Result<Problem, Fail> {
+    let classes = read_classes(alloc, CLASSES).ok().ok_or("classes")?;
+    let mut problem = Problem::new(alloc, classes);
+    for &(measure, target, penalty, weight, lower, upper) in rows {
+        let row = Row::new(measure, target, penalty, 0, weight, lower, upper).ok_or("a row")?;
+        assert!(rt; fits(problem.classes(), row.measure()));
+        assert!(rt; problem.add(row).is_ok());
+    }
+    Ok(problem)
 }
 
 /// One product: a make of 100 with this weight, up to `most`, and a purchase with this target, from `least` on.
@@ -38,32 +45,11 @@ struct Case {
     want: Option<i128>,
 }
 
-fn problem_of(rt: &impl Abort, alloc: Global, case: &Case) -> Result<Problem, Fail> {
-    let classes = read_classes(alloc, CLASSES).ok().ok_or("classes")?;
-    let mut problem = Problem::new(alloc, classes);
-    let make = Row::new(
-        MAKE,
-        Some(100),
-        Penalty::Square,
-        0,
-        case.weight,
-        0,
-        case.most,
-    );
-    add(rt, &mut problem, make)?;
-    let basic = Row::new(
-        BASIC,
-        Some(case.target),
-        case.penalty,
-        0,
-        1,
-        case.least,
-        1000,
-    );
-    add(rt, &mut problem, basic)?;
-    let added = Row::new(ADDED, None, Penalty::Square, 0, 0, 0, 1000);
-    add(rt, &mut problem, added)?;
-    Ok(problem)
+/// The rows of a case, and an added item without a target.
+fn rows_of(case: &Case) -> [RowCase; 3] {
+    let make = (MAKE, Some(100), Penalty::Square, case.weight, 0, case.most);
+    let basic = (BASIC, Some(case.target), case.penalty, 1, case.least, 1000);
+    [make, basic, (ADDED, None, Penalty::Square, 0, 0, 1000)]
 }
 
 /// The value of the make, or none where the problem is infeasible.
@@ -83,36 +69,52 @@ fn trial(alloc: Global, problem: &Problem) -> Result<Option<i128>, Fail> {
     make_of::<Brand>(alloc, problem, Blank::new(1))
 }
 
-const fn of(
-    weight: u32,
-    most: i64,
-    target: i64,
-    penalty: Penalty,
-    least: i64,
-    want: Option<i128>,
-) -> Case {
+/// The value of the make in the answer to the problem of these rows, or none where it is infeasible.
+fn answer_to(rt: &impl Abort, alloc: Global, rows: &[RowCase]) -> Result<Option<i128>, Fail> {
+    let problem = problem_of(rt, alloc, rows)?;
+    let answer = trial(alloc, &problem);
+    drop(problem);
+    answer
+}
+
+fn try_case(rt: &impl Abort, alloc: Global, case: &Case) -> Result<(), Fail> {
+    let rows = rows_of(case);
+    let answer = answer_to(rt, alloc, &rows)?;
+    assert!(rt; answer == case.want);
+    Ok(())
+}
+
+/// A case without lower bound.
+const fn case_of(weight: u32, most: i64, target: i64, penalty: Penalty, want: i128) -> Case {
     Case {
         weight,
         most,
         target,
         penalty,
-        least,
-        want,
+        least: 0,
+        want: Some(want),
     }
 }
 
+const INFEASIBLE: Case = Case {
+    weight: 1,
+    most: 90,
+    target: 100,
+    penalty: Penalty::Square,
+    least: 95,
+    want: None,
+};
+
 #[test]
 fn small_problems(rt: HostRuntime) -> Result<(), Fail> {
-    let cases = [
-        of(1, 1000, 104, Penalty::Square, 0, Some(102)),
-        of(3, 1000, 104, Penalty::Absolute, 0, Some(100)),
-        of(1, 1000, 104, Penalty::Band(2), 0, Some(101)),
-        of(1, 90, 80, Penalty::Square, 0, Some(90)),
-        of(1, 90, 100, Penalty::Square, 95, None),
-    ];
-    for case in &cases {
-        let problem = problem_of(&rt, rt.alloc(), case)?;
-        assert_eq!(rt; trial(rt.alloc(), &problem)?, case.want);
+    for case in [
+        case_of(1, 1000, 104, Penalty::Square, 102),
+        case_of(3, 1000, 104, Penalty::Absolute, 100),
+        case_of(1, 1000, 104, Penalty::Band(2), 101),
+        case_of(1, 90, 80, Penalty::Square, 90),
+        INFEASIBLE,
+    ] {
+        try_case(&rt, rt.alloc(), &case)?;
     }
     Ok(())
 }

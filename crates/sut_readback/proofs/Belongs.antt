@@ -1,12 +1,12 @@
 -- The table that a file gives is one of the problem.
-use Rattle.std.proofs.Common.{◌≡◌, ◌≢◌, ◌+◌, ◌++◌, ◌∷◌, ◌∙◌, ℕ, ℤ, List, [], Bool, true, false, Some, None, Result, Ok, Err, length, drop, map, refl, sym, ap, subst, append_assoc}
+use Rattle.std.proofs.Common.{◌≡◌, ◌≢◌, ◌+◌, ◌++◌, ◌∷◌, ◌∙◌, ℕ, ℤ, List, [], true, Some, Result, Ok, Err, length, drop, map, refl, sym, ap, subst, append_assoc}
 use Rattle.std.specs.Prelude.{◌==◌, IfErr, IfOk}
 use Rattle.std.specs.List.{filter_map}
 use Rattle.std.specs.Ordering.{int_eq}
 use Rattle.std.proofs.lemmas.Bool.{eqb-true}
 use Rattle.std.proofs.lemmas.List.{append-nil, map-append}
-use Rattle.sut_records.specs.RecordList.{Fields, records_of, same_fields}
-use Rattle.sut_records.specs.FirstFault.{and_then, read_lines}
+use Rattle.sut_records.specs.RecordList.{Fields, same_fields}
+use Rattle.sut_records.specs.FirstFault.{read_lines}
 use Rattle.sut_measures.specs.declared.measures.Cell.{Cell}
 use Rattle.sut_measures.specs.declared.measures.Measure.{Measure}
 use Rattle.sut_measures.specs.declared.measures.Measure.TheVariants as measure
@@ -14,12 +14,11 @@ use Rattle.sut_measures.specs.declared.measures.Total.{Total}
 use Rattle.sut_tables.specs.declared.tables.Held.{Held}
 use Rattle.sut_tables.specs.Breaks.{first_of}
 use Rattle.sut_tables.specs.ProblemFacts.{ProblemFacts}
-use Rattle.sut_tables.specs.Problems.{IsProblem, IsTableOf, cell_of, cell_rows, groups, live_measures}
+use Rattle.sut_tables.specs.Problems.{IsProblem, IsTableOf, cell_of, cell_rows, groups}
 use Rattle.sut_tables.specs.TableFacts.{TableFacts}
 use Rattle.sut_tables.specs.Values.{total_value}
 use Rattle.sut_readback.specs.BalancedText.{balanced_header}
-use Rattle.sut_readback.specs.BalancedFile.{TableSoFar, balanced_in, balanced_of, is_cell_number, nothing_read, table_in, table_line, whole_table, with_cell, with_value, wrong_header}
-use Rattle.sut_readback.specs.declared.faults.BalancedCause.{BalancedCause}
+use Rattle.sut_readback.specs.BalancedFile.{TableSoFar, balanced_in, is_cell_number, nothing_read, table_in, table_line, whole_table, with_cell, with_value, wrong_header}
 use Rattle.sut_readback.specs.declared.faults.BalancedCause.TheVariants as fault
 use Rattle.sut_readback.specs.declared.faults.BalancedFault.{BalancedFault}
 use Rattle.sut_readback.proofs.LineParts.{IsTaken, and_then-ok, line-taken, only_if-ok}

@@ -16,7 +16,7 @@ use Rattle.sut_tables.specs.Problems.{IsTableOf, cell_of}
 use Rattle.sut_tables.specs.RowFacts.{RowFacts}
 use Rattle.sut_tables.specs.Rows.{InRange}
 use Rattle.sut_tables.specs.TableFacts.{TableFacts}
-use Rattle.sut_tables.specs.Values.{number_at, value_of}
+use Rattle.sut_tables.specs.Values.{number_at, sum_where, value_of}
 use Rattle.sut_tables.specs.declared.tables.Held.{Held}
 use Rattle.sut_tables.proofs.Wide.{Within, few-rows, part-in_range, sum-within, zero-in_range}
 
@@ -76,6 +76,17 @@ value-up_to p t kept of ranges (measure.Total u) =
     within-up_to (length t.cells) (value_of t (measure.Total u)) (held-few p t kept of)
     (sum-within (λ (h : Held). factor t.groups h.cell u *ℤ h.number) t.cells
     (All-weaker (λ (h : Held). InRange h.number) (λ (h : Held). InRange (factor t.groups h.cell u *ℤ h.number)) (λ h. part-in_range t.groups h.cell u h.number) t.cells ranges))
+
+-- so does the sum of the cells that pass a test
+pub where-up_to : (p : ProblemFacts) (t : TableFacts) → IsKept p → IsTableOf p t → All (λ (h : Held). InRange h.number) t.cells → (test : Cell → Bool) → IsUpTo (2 ^ 58) (sum_where test t.cells)
+where-up_to p t kept of ranges test =
+    within-up_to (length t.cells) (sum_where test t.cells) (held-few p t kept of)
+    (sum-within (λ (h : Held). if test h.cell then h.number else pos 0) t.cells
+    (All-weaker (λ (h : Held). InRange h.number) (λ (h : Held). InRange (if test h.cell then h.number else pos 0)) (λ h. either (test h.cell) h.number) t.cells ranges))
+  where
+    either : (b : Bool) (x : ℤ) → InRange x → InRange (if b then x else pos 0)
+    either true x r = r
+    either false x r = zero-in_range
 
 up_to-small : (x : ℤ) → IsUpTo (2 ^ 58) x → mag x < 2 ^ 127
 up_to-small (pos n) r = omega (arith, ints, r.high)

@@ -1,6 +1,6 @@
 -- What classes keep, as names and live measures want it.
-use Rattle.std.proofs.Common.{◌≡◌, ◌≢◌, ◌<◌, ◌∙◌, ℕ, List, [], Bool, true, false, Option, Some, length, get_or, refl, sym, ap, arith}
-use Rattle.std.specs.Prelude.{All, IsTrue, None, ◌==◌, ◌||◌}
+use Rattle.std.proofs.Common.{◌≡◌, ◌≢◌, ◌<◌, ◌∙◌, ℕ, Bool, true, false, Option, Some, length, get_or, refl, sym, ap, arith}
+use Rattle.std.specs.Prelude.{IsTrue, ◌==◌, ◌||◌}
 use Rattle.std.specs.Str.{bytes_eq}
 use Rattle.std.proofs.lemmas.Bool.{eqb-true, false_from_ne_true}
 use Rattle.std.proofs.lemmas.Map.Keys.{IsDistinct-from_apart}
@@ -10,7 +10,6 @@ use Rattle.sut_classes.specs.ClassLists.{ClassLists, Code}
 use Rattle.sut_classes.specs.Kept.{IsClasses}
 use Rattle.sut_classes.specs.Places.{codes_of, place_of}
 use Rattle.sut_classes.specs.declared.ids.Axis.{Axis}
-use Rattle.sut_classes.specs.declared.ids.Axis.TheVariants as axis
 use Rattle.sut_measures.specs.DistinctCodes.{HasDistinctCodes}
 use Rattle.sut_tables.specs.GroupsThere.{GroupsAreThere}
 

@@ -1,5 +1,5 @@
 -- A file by its first record, and a table by its lines.
-use Rattle.std.proofs.Common.{◌≡◌, ◌+◌, ◌∷◌, ◌∙◌, List, [], Bool, true, false, Some, None, Ok, Err, length, refl, ap, suc}
+use Rattle.std.proofs.Common.{◌≡◌, ◌+◌, ◌∷◌, List, [], true, false, Some, Ok, Err, length, refl, suc}
 use Rattle.std.specs.Prelude.{◌==◌, ℕ}
 use Rattle.std.proofs.lemmas.Bool.Decides.{nat_tests}
 use Rattle.std.proofs.Common.{arith}

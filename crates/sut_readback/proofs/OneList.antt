@@ -1,5 +1,5 @@
 -- A table has one list of records: those of its text.
-use Rattle.std.proofs.Common.{◌≡◌, ◌+◌, ◌≤◌, ◌++◌, ◌∷◌, ◌∙◌, ◌&&◌, ℕ, zero, suc, ℤ, List, [], Bool, true, false, Result, Ok, Some, None, length, get_or, drop, map, refl, sym, ap, subst, arith, append_assoc, length-append}
+use Rattle.std.proofs.Common.{◌≡◌, ◌+◌, ◌≤◌, ◌++◌, ◌∷◌, ◌∙◌, ℕ, ℤ, List, [], true, Ok, Some, length, get_or, drop, map, refl, sym, ap, subst, arith, append_assoc, length-append}
 use Rattle.std.specs.List.{filter_map}
 use Rattle.std.specs.Str.{bytes_eq}
 use Rattle.std.proofs.lemmas.Bool.Decides.{Decides-int_eq}
@@ -10,7 +10,6 @@ use Rattle.sut_records.specs.RecordList.{Fields, field, same_fields}
 use Rattle.sut_records.specs.FirstFault.{read_lines}
 use Rattle.sut_classes.proofs.PlainLines.{both}
 use Rattle.sut_measures.specs.Keys.{cell_key, measure_key}
-use Rattle.sut_measures.specs.Names.{name_fields}
 use Rattle.sut_measures.specs.declared.measures.Cell.{Cell}
 use Rattle.sut_measures.specs.declared.measures.Total.{Total}
 use Rattle.sut_measures.specs.declared.measures.Measure.{Measure}
@@ -18,7 +17,7 @@ use Rattle.sut_measures.specs.declared.measures.Measure.TheVariants as measure
 use Rattle.sut_measures.proofs.RoundTrip.{name-measure_of}
 use Rattle.sut_tables.specs.Breaks.{first_of}
 use Rattle.sut_tables.specs.ProblemFacts.{ProblemFacts}
-use Rattle.sut_tables.specs.Problems.{IsProblem, cell_of, cell_rows, live_measures}
+use Rattle.sut_tables.specs.Problems.{IsProblem, cell_of, cell_rows}
 use Rattle.sut_tables.specs.TableFacts.{TableFacts}
 use Rattle.sut_tables.specs.Values.{number_at, total_value, value_of}
 use Rattle.sut_tables.specs.declared.tables.Held.{Held}
@@ -27,7 +26,7 @@ use Rattle.sut_tables.proofs.Ordered.{Sorted}
 use Rattle.sut_tables.proofs.Undo.{numbers_there}
 use Rattle.sut_readback.specs.BalancedText.{balanced_header, balanced_line, balanced_lines, target_text}
 use Rattle.sut_readback.specs.BalancedFile.{TableSoFar, balanced_in, name_in, nothing_read, table_line, with_cell, with_value}
-use Rattle.sut_readback.proofs.Belongs.{IsPart, cell-taken, first-then, header-read, lines-keep, nothing-part, part-kept, table-read, table_in-belongs, total-taken}
+use Rattle.sut_readback.proofs.Belongs.{IsPart, cell-taken, first-then, header-read, nothing-part, part-kept, table-read, table_in-belongs, total-taken}
 use Rattle.sut_readback.proofs.LineParts.{IsTaken, and_then-ok, line-taken}
 use Rattle.sut_readback.proofs.LiveParts.{no-cells}
 

@@ -1,11 +1,9 @@
 -- The lines of a printed table need no quotes.
-use Rattle.std.proofs.Common.{◌≡◌, ◌<◌, ◌≤◌, ◌^◌, ◌++◌, ◌∷◌, ◌||◌, ◌∙◌, ℕ, suc, ℤ, pos, negsuc, if◌then◌else◌, List, [], Bool, true, false, Option, Some, None, cond, length, map, ne_eqb, refl, sym, ap, subst, arith}
-use Rattle.std.specs.Prelude.{All, ◌==◌, ◌≤ℤ◌, decimal, find, neg_ℤ, unwrap_or}
+use Rattle.std.proofs.Common.{◌≡◌, ◌<◌, ◌^◌, ◌∷◌, ◌||◌, ℕ, suc, ℤ, pos, negsuc, List, [], Bool, true, false, Option, Some, None, cond, map, ne_eqb, refl, arith}
+use Rattle.std.specs.Prelude.{All, ◌==◌, decimal, find, unwrap_or}
 use Rattle.std.specs.Char.{digit_value}
-use Rattle.std.specs.List.{cons_option, filter_map}
 use Rattle.std.specs.Str.Parse.{AllDigits}
 use Rattle.std.proofs.lemmas.Fmt.{decimal_is_IsNumeral_wide}
-use Rattle.std.proofs.lemmas.Int.{ints}
 use Rattle.std.proofs.lemmas.List.Elements.{All-head, All-tail}
 use Rattle.std.proofs.lemmas.Str.Parse.{digit_from_value}
 use Rattle.csv.specs.Reading.{strip_bom}
@@ -23,28 +21,23 @@ use Rattle.sut_classes.specs.declared.ids.Column.{Column}
 use Rattle.sut_classes.specs.declared.ids.Column.TheVariants as column
 use Rattle.sut_classes.proofs.PlainLines.{plain-code}
 use Rattle.sut_measures.specs.Names.{cell_name, code, column_code, measure_name, name_list, total_name}
-use Rattle.sut_measures.specs.Sums.{same_cell}
 use Rattle.sut_measures.specs.declared.measures.Cell.{Cell}
 use Rattle.sut_measures.specs.declared.measures.Cell.TheVariants as cell
 use Rattle.sut_measures.specs.declared.measures.Total.{Total}
 use Rattle.sut_measures.specs.declared.measures.Total.TheVariants as total
 use Rattle.sut_measures.specs.declared.measures.Measure.{Measure}
 use Rattle.sut_measures.specs.declared.measures.Measure.TheVariants as measure
-use Rattle.sut_tables.specs.CellSums.{IsUpTo}
 use Rattle.sut_tables.specs.ProblemFacts.{ProblemFacts}
 use Rattle.sut_tables.specs.ProblemRules.{IsKept}
-use Rattle.sut_tables.specs.Problems.{IsTableOf, cell_of, cell_rows, row_at}
+use Rattle.sut_tables.specs.Problems.{IsTableOf}
 use Rattle.sut_tables.specs.RowFacts.{RowFacts}
 use Rattle.sut_tables.specs.Rows.{InRange, IsAim, IsRow}
 use Rattle.sut_tables.specs.TableFacts.{TableFacts}
-use Rattle.sut_tables.specs.Values.{number_at, total_value, value_of}
+use Rattle.sut_tables.specs.Values.{value_of}
 use Rattle.sut_tables.specs.declared.rows.Penalty.{Penalty}
-use Rattle.sut_tables.specs.declared.sums.CellSum.TheVariants as sum
 use Rattle.sut_tables.specs.declared.tables.Held.{Held}
-use Rattle.sut_tables.proofs.SumsKept.{sum_at-small}
-use Rattle.sut_tables.proofs.Wide.{few-rows, zero-in_range}
 use Rattle.sut_readback.proofs.Bounds.{range-small, value-small}
-use Rattle.sut_readback.specs.BalancedText.{balanced_header, balanced_line, balanced_lines, target_in, target_text}
+use Rattle.sut_readback.specs.BalancedText.{balanced_header, balanced_line, balanced_lines, target_in}
 
 -- ---- numbers
 

@@ -1,31 +1,26 @@
 -- The text of a table of a problem reads back as that table.
-use Rattle.std.proofs.Common.{◌≡◌, ◌<◌, ◌^◌, ◌+◌, ◌++◌, ◌∷◌, ◌∙◌, ℕ, ℤ, List, [], Bool, true, false, if◌then◌else◌, Some, None, Result, Ok, map, refl, sym, ap, append_assoc, subst}
-use Rattle.std.specs.Prelude.{All, ◌&&◌, int_lt, neg_ℤ, not}
+use Rattle.std.proofs.Common.{◌≡◌, ◌<◌, ◌^◌, ◌+◌, ◌++◌, ◌∷◌, ◌∙◌, ℕ, ℤ, List, [], true, if◌then◌else◌, Some, None, Ok, map, refl, sym, ap, append_assoc, subst}
+use Rattle.std.specs.Prelude.{All, neg_ℤ}
 use Rattle.std.specs.List.{filter_map}
-use Rattle.std.specs.Ordering.{int_eq}
-use Rattle.std.specs.Str.{bytes_eq}
 use Rattle.std.proofs.lemmas.Bool.Decides.{Decides-int_eq}
 use Rattle.std.proofs.lemmas.List.{append-nil}
 use Rattle.std.proofs.lemmas.List.Elements.{All-head, All-tail}
 use Rattle.std.proofs.lemmas.Slice.Eq.{bytes_eq-Decides}
 use lib.Signed.{mag}
-use Rattle.sut_text.specs.Text.{file_text}
 use Rattle.sut_text.proofs.Spelling.{whole-spelled}
-use Rattle.sut_records.specs.RecordList.{Fields, records_of}
 use Rattle.sut_records.specs.FirstFault.{read_lines}
 use Rattle.sut_records.proofs.FirstFaultLemmas.{line-judged, lines-ended}
 use Rattle.sut_records.proofs.PlainText.{printed-file}
 use Rattle.sut_classes.specs.Kept.{IsClasses}
 use Rattle.sut_measures.specs.Fits.{fits}
-use Rattle.sut_measures.specs.Keys.{cell_key, measure_key}
-use Rattle.sut_measures.specs.declared.measures.Cell.{Cell}
+use Rattle.sut_measures.specs.Keys.{measure_key}
 use Rattle.sut_measures.specs.declared.measures.Total.{Total}
 use Rattle.sut_measures.specs.declared.measures.Measure.{Measure}
 use Rattle.sut_measures.specs.declared.measures.Measure.TheVariants as measure
 use Rattle.sut_measures.proofs.RoundTrip.{measure_of-name}
 use Rattle.sut_tables.specs.ProblemFacts.{ProblemFacts}
 use Rattle.sut_tables.specs.ProblemRules.{IsKept}
-use Rattle.sut_tables.specs.Problems.{IsTableOf, cell_rows, groups, live_measures}
+use Rattle.sut_tables.specs.Problems.{IsTableOf, live_measures}
 use Rattle.sut_tables.specs.Rows.{InRange, limit}
 use Rattle.sut_tables.specs.TableFacts.{TableFacts}
 use Rattle.sut_tables.specs.Values.{number_at, total_value, value_of}
@@ -36,9 +31,8 @@ use Rattle.sut_tables.proofs.Ordered.{same-refl}
 use Rattle.sut_tables.proofs.Tests.{lt_is_false}
 use Rattle.sut_tables.proofs.Undo.{numbers_there}
 use Rattle.sut_readback.specs.BalancedText.{balanced_header, balanced_line, balanced_lines, balanced_text, target_text}
-use Rattle.sut_readback.specs.BalancedFile.{TableSoFar, balanced_in, balanced_of, is_cell_number, name_in, next_named, nothing_read, number_in, table_line, with_value}
+use Rattle.sut_readback.specs.BalancedFile.{TableSoFar, balanced_in, balanced_of, is_cell_number, name_in, next_named, number_in, table_line, with_value}
 use Rattle.sut_readback.specs.ReadingView.{measure_at, total_in}
-use Rattle.sut_readback.specs.declared.faults.BalancedFault.{BalancedFault}
 use Rattle.sut_readback.proofs.ClassLemmas.{distinct-codes, groups-there}
 use Rattle.sut_readback.proofs.FileLemmas.{table-whole, under-header}
 use Rattle.sut_readback.proofs.LineLemmas.{given-value, line-good, value-good}

@@ -1,5 +1,5 @@
 -- Reading `balanced.csv`: how a line is judged by what the lines before it gave, and the table that a whole file gives.
-use Rattle.std.specs.Prelude.{ℕ, ◌+◌, ◌==◌, ◌&&◌, not, int_lt, Bool, true, false, if◌then◌else◌, List, [], ◌∷◌, ◌++◌, drop, length, ℤ, neg_ℤ, Option, Some, None, Result, Ok, Err}
+use Rattle.std.specs.Prelude.{ℕ, ◌+◌, ◌==◌, ◌&&◌, not, int_lt, Bool, if◌then◌else◌, List, [], ◌∷◌, ◌++◌, drop, length, ℤ, neg_ℤ, Option, Some, None, Result, Ok, Err}
 use Rattle.std.specs.Ordering.{int_eq}
 use Rattle.std.specs.Str.{bytes_eq}
 use Rattle.sut_text.specs.Number.{whole_of}

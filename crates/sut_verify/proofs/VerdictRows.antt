@@ -79,6 +79,13 @@ shown_least = refl
 raised : verdict_on apart (numbers (pos 102) (pos 102) (pos 102)) (potentials (pos 104)) ≡ verdict.Refused (reason.Up make (pos 5) (pos 104))
 raised = refl
 
+-- a broken identity comes before all else
+open_table : verdict_on apart (numbers (pos 100) (pos 104) (pos 100)) [] ≡ verdict.Refused (reason.Open (record { place = place.Product (record { 0 = 0 }); left = pos 100; right = pos 104 }))
+open_table = refl
+
+no_potential : verdict_on apart (numbers (pos 102) (pos 102) (pos 102)) [] ≡ verdict.Refused (reason.NoPotential (account.Supplied (record { 0 = 0 })))
+no_potential = refl
+
 -- at most 90 can be made, and at least 95 is to be used
 abbrev bounded : Measure → ℤ → ℤ → RowFacts
 bounded m lo hi = record { measure = m; target = Some (pos 100); penalty = Square; grade = 0; weight = 1; lower = lo; upper = hi }

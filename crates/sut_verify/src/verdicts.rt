@@ -12,7 +12,10 @@ pub enum Reason {
     /// A live account has no potential.
     NoPotential(Account),
     /// A live measure has a rise and no row.
-    Bent { measure: Measure, rise: i128 },
+    Bent {
+        measure: Measure,
+        rise: i128,
+    },
     /// Below its upper bound, one more of a row's value costs less than the rise.
     Up {
         measure: Measure,
@@ -29,7 +32,10 @@ pub enum Reason {
     Crosses(Measure),
     /// The lower bounds of the rows that enter the set sum to no more than the upper bounds of
     /// those that leave it.
-    NoGap { entering: i128, leaving: i128 },
+    NoGap {
+        entering: i128,
+        leaving: i128,
+    },
 }
 
 /// A table is least, or a problem has no admissible table, or the certificate shows neither.

@@ -1,5 +1,4 @@
 use Rattle.std.proofs.Common.{◌≡◌, length, refl, sym, ◌∙◌, ap}
-use Rattle.sut_measures.specs.declared.accounts.Account.{Account}
 use Rattle.sut_circuit.specs.Circuit.{by_account, marked}
 use Rattle.sut_balance.proofs.Found.{circuit-stays, cut-impossible, made-is, potentials-are, right-cut, right-table, set-is, some-made}
 use Rattle.sut_balance.proofs.balancing.balance_in.Goals as goal

@@ -1,4 +1,4 @@
-use Rattle.std.proofs.Common.{◌∙◌, ap, sym}
+use Rattle.std.proofs.Common.{◌∙◌, ap}
 use Rattle.sut_readback.specs.BalancedFile.{TableSoFar}
 use Rattle.sut_readback.proofs.CellsFirst.{all-read}
 use Rattle.sut_readback.proofs.reading.Reading.into_table.Goals as goal

@@ -1,4 +1,3 @@
-use Rattle.std.proofs.Common.{◌∙◌, ap, sym}
 use Rattle.sut_readback.proofs.CellsFirst.{first-kept}
 use Rattle.sut_readback.proofs.ReadBack.{table-first}
 use Rattle.sut_readback.proofs.reading.Reading.new.Goals as goal

@@ -1,3 +1,0 @@
-pub mod FileLengths
-pub mod NameLengths
-pub mod TableLengths

@@ -1,0 +1,7 @@
+pub mod Lists
+pub mod Words
+pub mod Texts
+pub mod Delivered
+pub mod Headlined
+pub mod Complete
+pub mod Named

@@ -1,0 +1,76 @@
+-- What is said of the command that the words name.
+use Rattle.std.proofs.Common.{◌≡◌, ◌⊎◌, ℕ, List, Option, Some, None, IfSome, Contains, refl, sym, subst}
+use Rattle.std.specs.Prelude.{IsOk}
+use Rattle.sut_outside.specs.declared.names.FileName.{FileName}
+use Rattle.sut_outside.specs.Files.{Files, Told}
+use Rattle.sut_outside.specs.Causes.{Rose}
+use Rattle.sut_status.specs.declared.statuses.Status.{Status}
+use Rattle.sut_status.specs.declared.statuses.Status.TheVariants.{Balanced, NoMemory, Usage, Infeasible, BadSettings, BadClasses, BadSource, ReadFault, WriteFault, Missing, SinkFault, TooLong}
+use Rattle.sut_run.specs.declared.commands.Command.{Command}
+use Rattle.sut_run.specs.declared.commands.Command.TheVariants.{Balance}
+use Rattle.sut_run.specs.Commands.{read_names, written_names}
+use Rattle.sut_run.specs.Inputs.{input_of}
+use Rattle.sut_run.specs.Steps.{IfReadFault, IfWriteFault}
+use Rattle.sut_run.specs.Ends.{AnswersInput, IsDone, LeavesAll}
+use Rattle.sut_run.proofs.Delivered.{sent-same}
+use Rattle.sut_run.proofs.Complete.{complete_from}
+
+pub some-command : (o : Option Command) → o ≡ Some Balance → o ≡ None → ⊥
+some-command None e n = cc
+some-command (Some k) e n = cc
+
+pub for-command : (o : Option Command) → o ≡ Some Balance → (P : Command → Type 0) → P Balance → IfSome o P
+for-command o e P h = subst (λ x. IfSome x P) (sym e) h
+
+-- nothing was done
+pub no-command-told : (held : Option Files) (sent : Option (List ℕ)) → Told held held (λ old new. LeavesAll old new sent sent)
+no-command-told None sent = tt
+no-command-told (Some files) sent = ((λ name. refl), sent-same sent)
+
+pub read-names : (o : Option Command) → o ≡ Some Balance → (s : Status) (before now : ℕ) (last : Option FileName)
+    → IfReadFault s (λ failed. Rose before now × (last ≡ Some failed) × Contains (read_names Balance) failed)
+    → IfReadFault s (λ failed. Rose before now × (last ≡ Some failed) × IfSome o (λ k. Contains (read_names k) failed))
+read-names o e s before now last h = subst (λ x. IfReadFault s (λ failed. Rose before now × (last ≡ Some failed) × IfSome x (λ k. Contains (read_names k) failed))) (sym e) h
+
+pub write-names : (o : Option Command) → o ≡ Some Balance → (s : Status) (before now : ℕ) (last : Option FileName)
+    → IfWriteFault s (λ failed. Rose before now × (last ≡ Some failed) × Contains (written_names Balance) failed)
+    → IfWriteFault s (λ failed. Rose before now × (last ≡ Some failed) × IfSome o (λ k. Contains (written_names k) failed))
+write-names o e s before now last h = subst (λ x. IfWriteFault s (λ failed. Rose before now × (last ≡ Some failed) × IfSome x (λ k. Contains (written_names k) failed))) (sym e) h
+
+if-read : (s : Status) (R : Type 0) (P : FileName → Type 0) → IfReadFault s (λ n. R × P n) → IfReadFault s (λ n. R)
+if-read Balanced R P h = tt
+if-read NoMemory R P h = tt
+if-read Usage R P h = tt
+if-read Infeasible R P h = tt
+if-read (BadSettings e) R P h = tt
+if-read (BadClasses e) R P h = tt
+if-read (BadSource e) R P h = tt
+if-read (ReadFault n) R P h = h.0
+if-read (WriteFault n) R P h = tt
+if-read (Missing n) R P h = tt
+if-read SinkFault R P h = tt
+if-read (TooLong n) R P h = tt
+
+if-write : (s : Status) (R : Type 0) (P : FileName → Type 0) → IfWriteFault s (λ n. R × P n) → IfWriteFault s (λ n. R)
+if-write Balanced R P h = tt
+if-write NoMemory R P h = tt
+if-write Usage R P h = tt
+if-write Infeasible R P h = tt
+if-write (BadSettings e) R P h = tt
+if-write (BadClasses e) R P h = tt
+if-write (BadSource e) R P h = tt
+if-write (ReadFault n) R P h = tt
+if-write (WriteFault n) R P h = h.0
+if-write (Missing n) R P h = tt
+if-write SinkFault R P h = tt
+if-write (TooLong n) R P h = tt
+
+-- where the input is given and no count rose, the run is done, or memory ran out
+pub complete-told : (held : Option Files) (s : Status) (before now : ℕ) (last : Option FileName) {K : Type 0} → IfSome held (λ files. AnswersInput Balance files s)
+    → IfReadFault s (λ failed. Rose before now × (last ≡ Some failed) × Contains (read_names Balance) failed)
+    → IfWriteFault s (λ failed. Rose before now × (last ≡ Some failed) × Contains (written_names Balance) failed)
+    → (s ≡ SinkFault → K)
+    → IfSome held (λ files. IsOk (input_of Balance None files) → ¬ Rose before now → ¬ K → (s ≡ NoMemory) ⊎ IsDone s)
+complete-told None s before now last says read write sink = tt
+complete-told (Some files) s before now last says read write sink =
+    complete_from Balance files _ _ s says (if-read s _ _ read) (if-write s _ _ write) sink

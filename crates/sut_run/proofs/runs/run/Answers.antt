@@ -1,0 +1,81 @@
+use Rattle.std.proofs.Common.{◌≡◌, ◌↔◌, ◌⊎◌, ◌∙◌, Some, None, Ok, IfSome, Contains, map, string_bytes, refl, sym, subst}
+use Rattle.std.specs.Prelude.{IsOk}
+use Rattle.sut_outside.specs.declared.names.FileName.{FileName}
+use Rattle.sut_outside.specs.Files.{Files, Told}
+use Rattle.sut_outside.specs.Causes.{Rose}
+use Rattle.sut_status.specs.declared.statuses.Status.{Status}
+use Rattle.sut_status.specs.declared.statuses.Status.TheVariants.{Balanced, Infeasible, NoMemory, Usage}
+use Rattle.sut_run.specs.declared.commands.Command.{Command}
+use Rattle.sut_run.specs.declared.commands.Command.TheVariants.{Balance}
+use Rattle.sut_run.specs.Commands.{command_of, read_names, written_names}
+use Rattle.sut_run.specs.Inputs.{input_of}
+use Rattle.sut_run.specs.Steps.{IfReadFault, IfWriteFault}
+use Rattle.sut_run.specs.Ends.{AnswersInput, IsDone, Stands}
+use Rattle.sut_run.specs.Headlines.{Headline, WritesCut, WritesLeast}
+use Rattle.sut_run.proofs.Named.{complete-told, for-command, no-command-told, read-names, some-command, write-names}
+use Rattle.sut_run.proofs.runs.run.Goals as goal
+
+pub returns-in-Some-clause-usage : goal.returns-in-Some-clause-usage
+returns-in-Some-clause-usage g c =
+    ((λ e. absurd (c.run_balance.ensures.used e)), (λ e. absurd (some-command (command_of (map string_bytes c.args.words.now)) (sym c.command_named.ensures ∙ c.in-Some.is) e)))
+
+pub returns-in-Some-clause-unused : goal.returns-in-Some-clause-unused
+returns-in-Some-clause-unused g c e =
+    absurd (some-command (command_of (map string_bytes c.args.words.now)) (sym c.command_named.ensures ∙ c.in-Some.is) e)
+
+pub returns-in-Some-clause-input : goal.returns-in-Some-clause-input
+returns-in-Some-clause-input g c =
+    for-command (command_of (map string_bytes c.args.words.now)) (sym c.command_named.ensures ∙ c.in-Some.is) (λ (k : Command). IfSome (g.F.Shelf.files c.args.shelf.now) (λ (files : Files). AnswersInput k files c.run_balance.result)) c.run_balance.ensures.input
+
+pub returns-in-Some-clause-stands : goal.returns-in-Some-clause-stands
+returns-in-Some-clause-stands g c =
+    for-command (command_of (map string_bytes c.args.words.now)) (sym c.command_named.ensures ∙ c.in-Some.is) (λ (k : Command). Told (g.F.Shelf.files c.args.shelf.now) (g.F.Shelf.files c.run_balance.new.shelf) (Stands k c.run_balance.result (g.K.Sink.sent c.args.out.now) (g.K.Sink.sent c.run_balance.new.out))) c.run_balance.ensures.stands
+
+pub returns-in-Some-clause-read_fault : goal.returns-in-Some-clause-read_fault
+returns-in-Some-clause-read_fault g c =
+    read-names (command_of (map string_bytes c.args.words.now)) (sym c.command_named.ensures ∙ c.in-Some.is) c.run_balance.result _ _ _ c.run_balance.ensures.read_fault
+
+pub returns-in-Some-clause-write_fault : goal.returns-in-Some-clause-write_fault
+returns-in-Some-clause-write_fault g c =
+    write-names (command_of (map string_bytes c.args.words.now)) (sym c.command_named.ensures ∙ c.in-Some.is) c.run_balance.result _ _ _ c.run_balance.ensures.write_fault
+
+pub returns-in-Some-clause-complete : goal.returns-in-Some-clause-complete
+returns-in-Some-clause-complete g c =
+    for-command (command_of (map string_bytes c.args.words.now)) (sym c.command_named.ensures ∙ c.in-Some.is) (λ (k : Command). IfSome (g.F.Shelf.files c.args.shelf.now) (λ (files : Files). IsOk (input_of k None files) → ¬ Rose (g.F.Shelf.faults c.args.shelf.now) (g.F.Shelf.faults c.run_balance.new.shelf) → ¬ Rose (g.K.Sink.faults c.args.out.now) (g.K.Sink.faults c.run_balance.new.out) → (c.run_balance.result ≡ NoMemory) ⊎ IsDone c.run_balance.result))
+    (complete-told (g.F.Shelf.files c.args.shelf.now) c.run_balance.result _ _ _ c.run_balance.ensures.input c.run_balance.ensures.read_fault c.run_balance.ensures.write_fault c.run_balance.ensures.sink_fault)
+
+pub returns-in-Some-clause-balanced : goal.returns-in-Some-clause-balanced
+returns-in-Some-clause-balanced g c =
+    for-command (command_of (map string_bytes c.args.words.now)) (sym c.command_named.ensures ∙ c.in-Some.is) (λ (k : Command). c.run_balance.result ≡ Balanced → Told (g.F.Shelf.files c.args.shelf.now) (g.F.Shelf.files c.run_balance.new.shelf) (Headline k WritesLeast)) c.run_balance.ensures.balanced
+
+pub returns-in-Some-clause-infeasible : goal.returns-in-Some-clause-infeasible
+returns-in-Some-clause-infeasible g c =
+    for-command (command_of (map string_bytes c.args.words.now)) (sym c.command_named.ensures ∙ c.in-Some.is) (λ (k : Command). c.run_balance.result ≡ Infeasible → Told (g.F.Shelf.files c.args.shelf.now) (g.F.Shelf.files c.run_balance.new.shelf) (Headline k WritesCut)) c.run_balance.ensures.infeasible
+
+pub returns-in-None-clause-usage : goal.returns-in-None-clause-usage
+returns-in-None-clause-usage g c =
+    ((λ e. sym c.command_named.ensures ∙ c.in-None.is), (λ e. refl))
+
+pub returns-in-None-clause-unused : goal.returns-in-None-clause-unused
+returns-in-None-clause-unused g c e =
+    no-command-told (g.F.Shelf.files c.args.shelf.now) (g.K.Sink.sent c.args.out.now)
+
+pub returns-in-None-clause-input : goal.returns-in-None-clause-input
+returns-in-None-clause-input g c =
+    subst (λ o. IfSome o (λ (k : Command). IfSome (g.F.Shelf.files c.args.shelf.now) (λ (files : Files). AnswersInput k files Usage))) (sym (sym c.command_named.ensures ∙ c.in-None.is)) tt
+
+pub returns-in-None-clause-stands : goal.returns-in-None-clause-stands
+returns-in-None-clause-stands g c =
+    subst (λ o. IfSome o (λ (k : Command). Told (g.F.Shelf.files c.args.shelf.now) (g.F.Shelf.files c.args.shelf.now) (Stands k Usage (g.K.Sink.sent c.args.out.now) (g.K.Sink.sent c.args.out.now)))) (sym (sym c.command_named.ensures ∙ c.in-None.is)) tt
+
+pub returns-in-None-clause-complete : goal.returns-in-None-clause-complete
+returns-in-None-clause-complete g c =
+    subst (λ o. IfSome o (λ (k : Command). IfSome (g.F.Shelf.files c.args.shelf.now) (λ (files : Files). IsOk (input_of k None files) → ¬ Rose (g.F.Shelf.faults c.args.shelf.now) (g.F.Shelf.faults c.args.shelf.now) → ¬ Rose (g.K.Sink.faults c.args.out.now) (g.K.Sink.faults c.args.out.now) → (Usage ≡ NoMemory) ⊎ IsDone Usage))) (sym (sym c.command_named.ensures ∙ c.in-None.is)) tt
+
+pub returns-in-None-clause-balanced : goal.returns-in-None-clause-balanced
+returns-in-None-clause-balanced g c =
+    subst (λ o. IfSome o (λ (k : Command). Usage ≡ Balanced → Told (g.F.Shelf.files c.args.shelf.now) (g.F.Shelf.files c.args.shelf.now) (Headline k WritesLeast))) (sym (sym c.command_named.ensures ∙ c.in-None.is)) tt
+
+pub returns-in-None-clause-infeasible : goal.returns-in-None-clause-infeasible
+returns-in-None-clause-infeasible g c =
+    subst (λ o. IfSome o (λ (k : Command). Usage ≡ Infeasible → Told (g.F.Shelf.files c.args.shelf.now) (g.F.Shelf.files c.args.shelf.now) (Headline k WritesCut))) (sym (sym c.command_named.ensures ∙ c.in-None.is)) tt

@@ -1,0 +1,63 @@
+-- What each answer of a run says of its input, and what stands after it.
+use Rattle.std.specs.Prelude.{◌≡◌, ◌⊎◌, ℕ, List, Option, Some, None, Ok, Err, IsOk, IsOkAnd, ⊤}
+use Rattle.sut_outside.specs.declared.names.FileName.{FileName}
+use Rattle.sut_outside.specs.Files.{Files, SameFiles, Told}
+use Rattle.sut_outside.specs.Deliveries.{WrittenAll, StoppedAt}
+use Rattle.sut_outside.specs.Sent.{AppendsPart}
+use Rattle.sut_status.specs.declared.statuses.Status.{Status}
+use Rattle.sut_status.specs.declared.statuses.Status.TheVariants.{Balanced, NoMemory, Usage, Infeasible, BadSettings, BadClasses, BadSource, ReadFault, WriteFault, Missing, SinkFault, TooLong}
+use Rattle.sut_run.specs.declared.commands.Command.{Command}
+use Rattle.sut_run.specs.Inputs.{input_of}
+use Rattle.sut_run.specs.Deliveries.{Delivery, Gives}
+use Rattle.sut_run.specs.Steps.{SameSent, Sends}
+
+-- the run was done
+abbrev pub IsDone : Status → Type 0
+IsDone Balanced = ⊤
+IsDone Infeasible = ⊤
+IsDone _ = ⊥
+
+-- What an answer says of the input at entry. Want of memory: nothing. A failed read: where that read fails, nothing is
+-- refused before it. A failed write or put, or a run that was done: the input was accepted. Any other answer is the
+-- input's first refusal.
+abbrev pub AnswersInput : Command → Files → Status → Type 0
+AnswersInput c files NoMemory = ⊤
+AnswersInput c files (ReadFault name) = input_of c (Some name) files ≡ Err (ReadFault name)
+AnswersInput c files (WriteFault name) = IsOk (input_of c None files)
+AnswersInput c files SinkFault = IsOk (input_of c None files)
+AnswersInput c files Balanced = IsOk (input_of c None files)
+AnswersInput c files Infeasible = IsOk (input_of c None files)
+AnswersInput c files Usage = input_of c None files ≡ Err Usage
+AnswersInput c files (BadSettings e) = input_of c None files ≡ Err (BadSettings e)
+AnswersInput c files (BadClasses e) = input_of c None files ≡ Err (BadClasses e)
+AnswersInput c files (BadSource e) = input_of c None files ≡ Err (BadSource e)
+AnswersInput c files (Missing name) = input_of c None files ≡ Err (Missing name)
+AnswersInput c files (TooLong name) = input_of c None files ≡ Err (TooLong name)
+
+-- nothing was written and nothing was printed
+abbrev pub LeavesAll : Files → Files → Option (List ℕ) → Option (List ℕ) → Type 0
+LeavesAll old new before after = SameFiles old new × Told before after SameSent
+
+-- What a delivery leaves, by the answer: want of memory or a fault at a write, a fault at the put, or the answer with
+-- which the run is done.
+abbrev pub Delivers : Delivery → Status → Status → Files → Files → Option (List ℕ) → Option (List ℕ) → Type 0
+Delivers d ends NoMemory old new before after = ((name : FileName) × StoppedAt name d.texts old new) × Told before after SameSent
+Delivers d ends (WriteFault name) old new before after = StoppedAt name d.texts old new × Told before after SameSent
+Delivers d ends SinkFault old new before after = WrittenAll d.texts old new × Told before after (AppendsPart d.lines)
+Delivers d ends done old new before after = (done ≡ ends) × WrittenAll d.texts old new × Told before after (Sends d.lines)
+
+-- a right delivery for the input at entry was begun, and this is what it left
+abbrev pub DeliversRight : Command → Status → Files → Files → Option (List ℕ) → Option (List ℕ) → Type 0
+DeliversRight c status old new before after =
+    IsOkAnd (input_of c None old)
+    (λ input. (ends : Status) × (d : Delivery) × Gives input ends d × Delivers d ends status old new before after)
+
+-- What stands on the shelf and went out of the sink after a run, by its answer.
+abbrev pub Stands : Command → Status → Option (List ℕ) → Option (List ℕ) → Files → Files → Type 0
+Stands c NoMemory before after old new =
+    LeavesAll old new before after ⊎ DeliversRight c NoMemory old new before after
+Stands c (WriteFault name) before after old new = DeliversRight c (WriteFault name) old new before after
+Stands c SinkFault before after old new = DeliversRight c SinkFault old new before after
+Stands c Balanced before after old new = DeliversRight c Balanced old new before after
+Stands c Infeasible before after old new = DeliversRight c Infeasible old new before after
+Stands c refused before after old new = LeavesAll old new before after

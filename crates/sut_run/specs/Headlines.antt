@@ -1,0 +1,63 @@
+-- What the written files say by themselves, read back by the readers' own definitions.
+use Rattle.std.specs.Prelude.{◌≡◌, ◌≤◌, ℕ, ℤ, List, length, None, Ok, Result, IsSomeAnd}
+use Rattle.sut_outside.specs.declared.names.FileName.{FileName}
+use Rattle.sut_outside.specs.declared.names.FileName.TheVariants.{SourceCsv, BalancedCsv, CertificateCsv}
+use Rattle.sut_outside.specs.declared.shelf.TheConstants.{FILE_LIMIT}
+use Rattle.sut_outside.specs.Files.{Files}
+use Rattle.sut_settings.specs.SettingsFacts.{SettingsFacts}
+use Rattle.sut_measures.specs.declared.accounts.Account.{Account}
+use Rattle.sut_tables.specs.ProblemFacts.{ProblemFacts}
+use Rattle.sut_tables.specs.TableFacts.{TableFacts}
+use Rattle.sut_tables.specs.Costs.{IsLeast, IsImpossible}
+use Rattle.sut_tables.specs.Gdp.{production, income, expenditure}
+use Rattle.sut_cert.specs.Certificates.{ShowsLeast, Contradicts}
+use Rattle.sut_cert.specs.CertificateFile.{certificate_of}
+use Rattle.sut_cert.specs.declared.certificates.Certificate.TheVariants as certificate
+use Rattle.sut_readback.specs.BalancedFile.{balanced_of}
+use Rattle.sut_input.specs.Inputs.{problem_in}
+use Rattle.sut_run.specs.declared.commands.Command.{Command}
+use Rattle.sut_run.specs.declared.commands.Command.TheVariants.{Balance}
+use Rattle.sut_run.specs.Inputs.{input_of, to_balance}
+
+-- the problem whose answer is written
+abbrev pub IsLastProblem : Command → Files → SettingsFacts → ProblemFacts → Type 0
+IsLastProblem Balance old s p = input_of Balance None old ≡ Ok (to_balance s p)
+
+-- the name under which the source of that problem stands at exit
+abbrev pub source_name : Command → FileName
+source_name Balance = SourceCsv
+
+-- a text stands under the name, is no longer than a read gives, and spells this
+abbrev pub Spells : {A F : Type 0} → Files → FileName → (List ℕ → Result A F) → A → Type 0
+Spells files name read value = IsSomeAnd (files name) (λ bytes. (length bytes ≤ FILE_LIMIT) × (read bytes ≡ Ok value))
+
+-- production, income and expenditure are one number
+pub record HasOneGdp (t : TableFacts) : Type 0 where
+  pub by_income : income t ≡ production t
+  pub by_expenditure : expenditure t ≡ production t
+
+-- the written table is least and has one GDP, and the written potentials show it
+pub record WritesLeast (p : ProblemFacts) (files : Files) : Type 0 where
+  pub table : TableFacts
+  pub shown_by : List (Account × ℤ)
+  pub table_spelled : Spells files BalancedCsv (balanced_of p) table
+  pub certificate_spelled : Spells files CertificateCsv (certificate_of p) (certificate.Potentials shown_by)
+  pub least : IsLeast p table
+  pub one_gdp : HasOneGdp table
+  pub shown : ShowsLeast p table shown_by
+
+-- the written set contradicts, and no table exists
+pub record WritesCut (p : ProblemFacts) (files : Files) : Type 0 where
+  pub set : List Account
+  pub spelled : Spells files CertificateCsv (certificate_of p) (certificate.Cut set)
+  pub contradicts : Contradicts p set
+  pub impossible : IsImpossible p
+
+-- What a balanced and an infeasible answer say of the files at entry and at exit. At exit the files spell the problem
+-- again, so that the separate check reads what is said here.
+pub record Headline (c : Command) (W : ProblemFacts → Files → Type 0) (old new : Files) : Type 0 where
+  pub problem : ProblemFacts
+  pub settings : SettingsFacts
+  pub given : IsLastProblem c old settings problem
+  pub spelled : problem_in (source_name c) None new ≡ Ok (settings, problem)
+  pub written : W problem new

@@ -1,0 +1,12 @@
+-- The list of files to write, as names and texts.
+use Rattle.std.specs.Prelude.{ℕ, List, map}
+use Rattle.sut_outside.specs.declared.names.FileName.{FileName}
+use Rattle.sut_run.specs.declared.writing.Output.{Output}
+
+-- its name and its text
+abbrev pub named_text : Output → FileName × List ℕ
+named_text output = (output.name, output.text.items)
+
+-- the names and texts of a list of outputs, in order
+abbrev pub texts_in : List Output → List (FileName × List ℕ)
+texts_in outputs = map named_text outputs

@@ -1,0 +1,109 @@
+//! The command `balance`.
+
+ghost use Rattle.std.specs.Prelude.{◌≡◌, ◌↔◌, ◌<◌, IfOk, IfSome, IsTrue, Contains};
+ghost use Rattle.sut_outside.specs.Files.{Told};
+ghost use Rattle.sut_outside.specs.Causes.{Rose};
+ghost use Rattle.sut_tables.specs.Costs.{IsImpossible};
+ghost use Rattle.sut_cert.specs.Right.{IsRight, is_infeasible};
+ghost use Rattle.sut_run.specs.Commands.{read_names, written_names};
+ghost use Rattle.sut_run.specs.Inputs.{refused};
+ghost use Rattle.sut_run.specs.Outputs.{texts_in};
+ghost use Rattle.sut_run.specs.Prepared.{IsPrepared};
+ghost use Rattle.sut_run.specs.Ends.{AnswersInput, Stands};
+ghost use Rattle.sut_run.specs.Headlines.{Headline, WritesCut, WritesLeast};
+ghost use Rattle.sut_run.specs.Steps.{IfReadFault, IfWriteFault};
+
+use crate::commands::Command;
+use crate::outputs::{make, status_of};
+use crate::writing::{Made, deliver};
+use flow_residual::Steps;
+use no_memory::NoMemory;
+use std::alloc::Global;
+use std::marker::Brand;
+use std::sync::ledger::{Blank, Ledger};
+use sut_balance::{Answer, balance};
+use sut_input::{InputFault, read_problem};
+use sut_outside::{FileName, Shelf, Sink};
+use sut_status::Status;
+use sut_tables::Problem;
+
+fn refused(fault: InputFault) -> Status
+    ensures { result ≡ refused fault }
+{
+    match fault {
+        InputFault::Missing(name) => Status::Missing(name),
+        InputFault::TooLong(name) => Status::TooLong(name),
+        InputFault::ReadFault(name) => Status::ReadFault(name),
+        InputFault::BadSettings(fault) => Status::BadSettings(fault),
+        InputFault::BadClasses(fault) => Status::BadClasses(fault),
+        InputFault::BadSource(fault) => Status::BadSource(fault),
+        InputFault::NoMemory => Status::NoMemory,
+    }
+}
+
+fn counted<L: Ledger>(alloc: Global, p: &Problem, blank: Blank) -> Result<Answer, NoMemory>
+    requires name { blank.name ≡ L.name }
+    requires parts { blank.parts ≡ L.parts }
+    requires some { 0 < L.parts }
+    ensures right { IfOk result (IsRight p.now) }
+    ensures infeasible { IfOk result (λ a. IsTrue (is_infeasible a) ↔ IsImpossible p.now) }
+{
+    let mut steps = Steps::<L>::new(blank);
+    balance(alloc, p, &mut steps)
+}
+
+// The answer to a problem.
+fn answer_to(alloc: Global, p: &Problem) -> Result<Answer, NoMemory>
+    ensures right { IfOk result (IsRight p.now) }
+    ensures infeasible { IfOk result (λ a. IsTrue (is_infeasible a) ↔ IsImpossible p.now) }
+{
+    counted::<Brand>(alloc, p, Blank::new(1))
+}
+
+/// What is delivered for a problem, and the status of the run after it.
+#[derive(Drop)]
+struct Prepared {
+    done: Status,
+    made: Made,
+}
+
+// Balances, and makes all texts.
+fn prepare(alloc: Global, p: &Problem) -> Result<Prepared, NoMemory>
+    ensures { IfOk result (λ x. IsPrepared p.now x.done (texts_in x.made.outputs.items) x.made.lines.items) }
+{
+    let answer = answer_to(alloc, p)?;
+    let done = status_of(&answer);
+    let made = make(alloc, p, answer)?;
+    Ok(Prepared { done, made })
+}
+
+/// Reads settings, classes and source, balances, writes the tables, the certificate and the report, and prints three lines.
+pub(crate) fn run_balance<F: Shelf, K: Sink>(alloc: Global, shelf: &mut F, out: &mut K) -> Status
+    ensures input { IfSome (F.files shelf.old) (λ files. AnswersInput Command.Balance files result) }
+    ensures stands { Told (F.files shelf.old) (F.files shelf.new) (Stands Command.Balance result (K.sent out.old) (K.sent out.new)) }
+    ensures read_fault { IfReadFault result (λ failed. Rose (F.faults shelf.old) (F.faults shelf.new) × (F.last_failed shelf.new ≡ Some failed) × Contains (read_names Command.Balance) failed) }
+    ensures write_fault { IfWriteFault result (λ failed. Rose (F.faults shelf.old) (F.faults shelf.new) × (F.last_failed shelf.new ≡ Some failed) × Contains (written_names Command.Balance) failed) }
+    ensures sink_fault { result ≡ Status.SinkFault → Rose (K.faults out.old) (K.faults out.new) }
+    ensures balanced { result ≡ Status.Balanced → Told (F.files shelf.old) (F.files shelf.new) (Headline Command.Balance WritesLeast) }
+    ensures infeasible { result ≡ Status.Infeasible → Told (F.files shelf.old) (F.files shelf.new) (Headline Command.Balance WritesCut) }
+    ensures used { (result ≡ Status.Usage) → ⊥ }
+{
+    let input = match read_problem(alloc, shelf, FileName::SourceCsv) {
+        Ok(input) => input,
+        Err(fault) => return refused(fault),
+    };
+    let prepared = match prepare(alloc, &input.problem) {
+        Ok(prepared) => {
+            drop(input);
+            prepared
+        }
+        Err(_) => {
+            drop(input);
+            return Status::NoMemory;
+        }
+    };
+    match deliver(shelf, out, &prepared.made) {
+        Ok(()) => prepared.done,
+        Err(stopped) => stopped,
+    }
+}

@@ -1,0 +1,12 @@
+//! The run of a command: files in, files and printed lines out.
+#![tactic(auto)]
+
+pub mod balancing;
+pub mod commands;
+mod outputs;
+pub mod runs;
+mod writing;
+
+pub use commands::Command;
+pub use runs::run;
+pub use sut_status::Status;

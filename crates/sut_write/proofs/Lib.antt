@@ -1,0 +1,11 @@
+pub mod GdpBounds
+pub mod Layers
+pub mod NoFloats
+pub mod Printed
+pub mod AccountLines
+pub mod Below
+pub mod Sums
+pub mod SupplyLines
+pub mod UseLines
+pub mod FewTotals
+pub mod TextLength

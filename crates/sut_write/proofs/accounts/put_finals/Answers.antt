@@ -1,0 +1,20 @@
+use Rattle.std.proofs.Common.{◌≡◌, ◌∙◌, ap, arith, length}
+use Rattle.sut_classes.specs.Places.{codes_of}
+use Rattle.sut_classes.specs.declared.ids.Axis.TheVariants as axis
+use Rattle.sut_text.specs.Text.{line_text}
+use Rattle.sut_write.specs.Accounts.{final_entry}
+use Rattle.sut_write.specs.Places.{below}
+use Rattle.sut_write.proofs.AccountLines.{entries-over}
+use Rattle.sut_write.proofs.Below.{printed-all, printed-more}
+use Rattle.sut_write.proofs.accounts.put_finals.Goals as goal
+
+pub loop-place-preserved : goal.loop-place-preserved
+loop-place-preserved c =
+    printed-more (λ n. line_text (final_entry c.args.p.now.classes c.args.t.now (record { 0 = n }))) c.loop-place.place c.args.out.now.items c.loop-place.out.items c.put_final.new.out.items c.loop-place.invariant c.in_ok-put_final.ensures
+
+pub returns : goal.returns
+returns c =
+    let cs = c.args.p.now.classes in
+    let t = c.args.t.now in
+    let count : c.count-place-end.result ≡ length cs.finals = c.count-place-end.ensures.count ∙ ap (λ cs. length (codes_of cs axis.Final)) c.classes.ensures in
+    printed-all (λ n. line_text (final_entry cs t (record { 0 = n }))) c.loop-place.place (length cs.finals) c.args.out.now.items c.loop-place.out.items _ c.loop-place.invariant (omega (arith, count)) (entries-over (final_entry cs t) (λ n. record { 0 = n }) (below (length cs.finals)))

@@ -1,0 +1,18 @@
+use Rattle.std.proofs.Common.{◌≡◌, ◌∙◌, ap, length}
+use Rattle.std.proofs.lemmas.Int.{to_z-of_z}
+use mir.Syntax.{w128}
+use mir.Val.{SFits}
+use Rattle.sut_classes.specs.Places.{codes_of}
+use Rattle.sut_classes.specs.declared.ids.Axis.TheVariants as axis
+use Rattle.sut_measures.specs.declared.measures.Total.TheVariants as total
+use Rattle.sut_write.specs.Numbers.{total_of}
+use Rattle.sut_write.proofs.Below.{sum-below}
+use Rattle.sut_write.proofs.numbers.all_taxes.Goals as goal
+
+pub returns : goal.returns
+returns c =
+    let cs = c.args.p.now.classes in
+    let fits : SFits w128 c.sum_of.result = record { sfits = c.sum_of.type_inv } in
+    let count : c.count.result ≡ length cs.taxes = c.count.ensures.count ∙ ap (λ cs. length (codes_of cs axis.Tax)) c.classes.ensures in
+    to_z-of_z w128 c.sum_of.result fits
+    ∙ sum-below (λ j. total_of c.args.t.now (total.TaxTotal j)) (λ n. record { 0 = n }) c.sum_of.result c.count.result (length cs.taxes) c.sum_of.ensures.sum count

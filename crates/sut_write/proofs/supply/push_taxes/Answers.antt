@@ -1,0 +1,14 @@
+use Rattle.std.proofs.Common.{◌≡◌, arith, length}
+use Rattle.sut_write.specs.declared.supply.SupplyColumn.TheVariants as column
+use Rattle.sut_write.proofs.Below.{pushed-all, pushed-more}
+use Rattle.sut_write.proofs.supply.push_taxes.Goals as goal
+
+pub loop-place-preserved : goal.loop-place-preserved
+loop-place-preserved c =
+    pushed-more (λ n. column.Tax (record { 0 = n })) c.loop-place.place c.args.columns.now.items c.loop-place.columns.items c.push.new.self.items c.loop-place.invariant c.in_ok-push.ensures.items
+
+pub returns : goal.returns
+returns c =
+    let cs = c.args.classes.now in
+    let count : c.count-place-end.result ≡ length cs.taxes = c.count-place-end.ensures.count in
+    pushed-all (λ j. column.Tax j) (λ n. record { 0 = n }) c.loop-place.place (length cs.taxes) c.args.columns.now.items c.loop-place.columns.items c.loop-place.invariant (omega (arith, count))

@@ -1,0 +1,9 @@
+use Rattle.std.proofs.Common.{◌≡◌, ◌++◌}
+use Rattle.std.specs.List.{flat_map}
+use Rattle.sut_text.specs.Text.{line_text}
+use Rattle.sut_write.specs.Supply.{supply_line}
+use Rattle.sut_write.specs.Places.{below}
+use Rattle.sut_write.proofs.supply.put_product_lines.Given as goal
+
+abbrev pub invariant-loop-place : goal.invariant-loop-place
+invariant-loop-place l = l.out.items ≡ l.initial.out.items ++ flat_map (λ n. line_text (supply_line l.p.classes l.t (record { 0 = n }))) (below l.place)

@@ -1,0 +1,10 @@
+use Rattle.std.proofs.Common.{◌≡◌, ◌++◌}
+use Rattle.std.specs.List.{flat_map}
+use Rattle.sut_text.specs.Text.{line_text}
+use Rattle.sut_write.specs.Use.{use_line}
+use Rattle.sut_write.specs.declared.use_table.UseLine.TheVariants as line
+use Rattle.sut_write.specs.Places.{below}
+use Rattle.sut_write.proofs.use_table.put_added_lines.Given as goal
+
+abbrev pub invariant-loop-place : goal.invariant-loop-place
+invariant-loop-place l = l.out.items ≡ l.initial.out.items ++ flat_map (λ n. line_text (use_line l.p.classes l.t (line.Added (record { 0 = n })))) (below l.place)

@@ -1,0 +1,9 @@
+pub mod Answers
+pub mod Screen
+pub mod Places
+pub mod Numbers
+pub mod Supply
+pub mod Use
+pub mod Accounts
+pub mod Reports
+pub mod Series

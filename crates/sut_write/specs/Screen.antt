@@ -1,0 +1,36 @@
+-- The lines that `balance` prints, each a list of words.
+use Rattle.std.specs.Prelude.{ℕ, List, [], ◌∷◌, codes, decimal}
+use Rattle.sut_text.specs.Text.{whole_text, printed_text}
+use Rattle.sut_measures.specs.declared.accounts.Account.{Account}
+use Rattle.sut_tables.specs.ProblemFacts.{ProblemFacts}
+use Rattle.sut_tables.specs.TableFacts.{TableFacts}
+use Rattle.sut_tables.specs.Costs.{cost}
+use Rattle.sut_tables.specs.Gdp.{production, income, expenditure}
+use Rattle.sut_cert.specs.declared.answers.Answer.{Answer}
+use Rattle.sut_cert.specs.declared.answers.Answer.TheVariants as answer
+use Rattle.sut_cert.specs.Certificates.{entering, leaving}
+
+abbrev pub cost_words : ProblemFacts → TableFacts → List (List ℕ)
+cost_words p t = codes "cost" ∷ decimal (cost p t) ∷ []
+
+-- the three sums: production, income, expenditure
+abbrev pub gdp_words : TableFacts → List (List ℕ)
+gdp_words t = codes "gdp" ∷ whole_text (production t) ∷ whole_text (income t) ∷ whole_text (expenditure t) ∷ []
+
+abbrev pub balanced_words : ProblemFacts → TableFacts → List (List (List ℕ))
+balanced_words p t = (codes "balanced" ∷ []) ∷ cost_words p t ∷ gdp_words t ∷ []
+
+-- the sums of the bounds that enter the set and that leave it
+abbrev pub set_words : ProblemFacts → List Account → List (List (List ℕ))
+set_words p s = (codes "entering" ∷ whole_text (entering p s) ∷ []) ∷ (codes "leaving" ∷ whole_text (leaving p s) ∷ []) ∷ []
+
+abbrev pub infeasible_words : ProblemFacts → List Account → List (List (List ℕ))
+infeasible_words p s = (codes "infeasible" ∷ []) ∷ set_words p s
+
+-- the three printed lines of an answer
+abbrev pub screen_lines : ProblemFacts → Answer → List (List (List ℕ))
+screen_lines p (answer.Balanced t c) = balanced_words p t
+screen_lines p (answer.Infeasible s) = infeasible_words p s
+
+abbrev pub screen_text : ProblemFacts → Answer → List ℕ
+screen_text p a = printed_text (screen_lines p a)

@@ -1,0 +1,21 @@
+//! The printed texts of an answer.
+#![tactic(auto)]
+
+mod accounts;
+mod balanced;
+mod codes;
+pub mod laws;
+mod numbers;
+mod report;
+mod screen;
+mod supply;
+mod use_table;
+mod words;
+
+pub use accounts::accounts_text;
+pub use balanced::balanced_text;
+pub use report::report_text;
+pub use screen::screen_text;
+pub use supply::supply_text;
+pub use sut_readback::{BalancedCause, BalancedFault, read_balanced};
+pub use use_table::use_text;
