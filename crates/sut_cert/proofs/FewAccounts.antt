@@ -24,11 +24,11 @@ use Rattle.sut_cert.proofs.Ranges.{both}
 
 -- ---- ranks
 
-column_digit : Column → ℕ
+pub column_digit : Column → ℕ
 column_digit (column.Industry j) = j.0
 column_digit (column.Final f) = 256 + f.0
 
-column_at : ℕ → Column
+pub column_at : ℕ → Column
 column_at c = if nat_lt c 256 then column.Industry (record { 0 = c }) else column.Final (record { 0 = c - 256 })
 
 -- the accounts with this digit, one of each kind; the kinds are numbered from 0
@@ -115,17 +115,17 @@ rank a = kind a * 18432 + digit a
 
 -- ---- how large the places are
 
-record Few (cs : ClassLists) : Type 0 where
-  products : length cs.products ≤ 512
-  industries : length cs.industries ≤ 256
-  finals : length cs.finals ≤ 32
-  items : length cs.items ≤ 16
-  margins : length cs.margins ≤ 4
-  taxes : length cs.taxes ≤ 8
-  product_groups : length cs.product_groups ≤ 64
-  industry_groups : length cs.industry_groups ≤ 32
+pub record Few (cs : ClassLists) : Type 0 where
+  pub products : length cs.products ≤ 512
+  pub industries : length cs.industries ≤ 256
+  pub finals : length cs.finals ≤ 32
+  pub items : length cs.items ≤ 16
+  pub margins : length cs.margins ≤ 4
+  pub taxes : length cs.taxes ≤ 8
+  pub product_groups : length cs.product_groups ≤ 64
+  pub industry_groups : length cs.industry_groups ≤ 32
 
-few-classes : (cs : ClassLists) → IsClasses cs → Few cs
+pub few-classes : (cs : ClassLists) → IsClasses cs → Few cs
 few-classes cs kept = record {
   products = subst (λ n. n ≤ 512) (length-map cs.products (λ (p : ProductClass). p.code)) (kept.few axis.Product);
   industries = subst (λ n. n ≤ 256) (length-map cs.industries (λ (j : IndustryClass). j.code)) (kept.few axis.Industry);
@@ -137,15 +137,15 @@ few-classes cs kept = record {
   industry_groups = kept.few axis.IndustryGroup;
 }
 
-below : (n len top : ℕ) → nat_lt n len ≡ true → len ≤ top → n < top
+pub below : (n len top : ℕ) → nat_lt n len ≡ true → len ≤ top → n < top
 below n len top h g = let k = ltb-true n len h in omega arith
 
-column-below : (cs : ClassLists) → Few cs → (q : Column) → has_column cs q ≡ true → column_digit q < 288
+pub column-below : (cs : ClassLists) → Few cs → (q : Column) → has_column cs q ≡ true → column_digit q < 288
 unfolding column_digit
 column-below cs few (column.Industry j) h = let k = below j.0 (length cs.industries) 256 h few.industries in omega arith
 column-below cs few (column.Final f) h = let k = below f.0 (length cs.finals) 32 h few.finals in omega arith
 
-column-back : (cs : ClassLists) → Few cs → (q : Column) → has_column cs q ≡ true → column_at (column_digit q) ≡ q
+pub column-back : (cs : ClassLists) → Few cs → (q : Column) → has_column cs q ≡ true → column_at (column_digit q) ≡ q
 unfolding column_digit column_at
 column-back cs few (column.Industry j) h = rw (lt-ltb j.0 256 (below j.0 (length cs.industries) 256 h few.industries)) refl
 column-back cs few (column.Final f) h = rw (past f.0) (ap (λ n. column.Final (record { 0 = n })) (back f.0))

@@ -45,10 +45,10 @@ there-short a (Some text) lawful =
     let sized = (both (nat_le 1 (length text) && nat_le (length text) 32) (list_all is_code_byte text) is).0 in
     leb-true (length text) 32 (both (nat_le 1 (length text)) (nat_le (length text) 32) sized).1
 
-short-place : (cs : ClassLists) → IsClasses cs → (a : Axis) (n : ℕ) → length (code cs a n) ≤ 32
+pub short-place : (cs : ClassLists) → IsClasses cs → (a : Axis) (n : ℕ) → length (code cs a n) ≤ 32
 short-place cs kept a n = there-short a (code_at cs a n) (kept.lawful a n)
 
-short-column : (cs : ClassLists) → IsClasses cs → (q : Column) → length (column_code cs q) ≤ 32
+pub short-column : (cs : ClassLists) → IsClasses cs → (q : Column) → length (column_code cs q) ≤ 32
 short-column cs kept (column.Industry j) = short-place cs kept axis.Industry j.0
 short-column cs kept (column.Final f) = short-place cs kept axis.Final f.0
 

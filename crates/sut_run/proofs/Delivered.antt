@@ -3,6 +3,7 @@ use Rattle.std.proofs.Common.{◌≡◌, ◌≢◌, ◌≤◌, ◌<◌, ◌∙�
 use Rattle.std.specs.Prelude.{IsOk}
 use Rattle.sut_outside.specs.declared.names.FileName.{FileName}
 use Rattle.sut_outside.specs.declared.names.FileName.TheVariants.{SourceCsv}
+use Rattle.sut_outside.specs.declared.shelf.TheConstants.{FILE_LIMIT}
 use Rattle.sut_outside.specs.Files.{Files, SameFiles, Told}
 use Rattle.sut_outside.specs.Causes.{Rose}
 use Rattle.sut_outside.specs.Deliveries.{StoppedAt, WrittenAll}
@@ -255,3 +256,6 @@ right-cut p a set e r = subst (IsRight p) e r
 -- what reads back from a text reads back from the bytes that are it
 pub by-text : {A F : Type 0} (read : List ℕ → Result A F) (value : A) (bytes text : List ℕ) → bytes ≡ text → read bytes ≡ Ok value → read text ≡ Ok value
 by-text read value bytes text e h = subst (λ b. read b ≡ Ok value) e h
+
+pub short-text : (bytes text : List ℕ) → bytes ≡ text → length bytes ≤ FILE_LIMIT → length text ≤ FILE_LIMIT
+short-text bytes text e h = subst (λ b. length b ≤ FILE_LIMIT) e h

@@ -73,4 +73,4 @@ pub complete-told : (held : Option Files) (s : Status) (before now : ℕ) (last 
     → IfSome held (λ files. IsOk (input_of Balance None files) → ¬ Rose before now → ¬ K → (s ≡ NoMemory) ⊎ IsDone s)
 complete-told None s before now last says read write sink = tt
 complete-told (Some files) s before now last says read write sink =
-    complete_from Balance files _ _ s says (if-read s _ _ read) (if-write s _ _ write) sink
+    complete_from Balance files _ _ s says (if-read s (Rose before now) (λ failed. (last ≡ Some failed) × Contains (read_names Balance) failed) read) (if-write s (Rose before now) (λ failed. (last ≡ Some failed) × Contains (written_names Balance) failed) write) sink

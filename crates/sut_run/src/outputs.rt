@@ -5,7 +5,6 @@ ghost use Rattle.sut_tables.specs.Costs.{IsAdmissible};
 ghost use Rattle.sut_cert.specs.Right.{IsRight};
 ghost use Rattle.sut_cert.specs.CertificateText.{NamesLiveAccounts};
 ghost use Rattle.sut_write.specs.Screen as screen;
-ghost use Rattle.sut_write.specs.Reports as report;
 ghost use Rattle.sut_run.specs.Outputs.{texts_in};
 ghost use Rattle.sut_run.specs.Deliveries.{ReadsBack, SpellsCertificate, SpellsTable, answer_files, certificate_file, front_files, status_of, table_files};
 
@@ -13,19 +12,10 @@ use crate::writing::{Made, Output};
 use no_memory::NoMemory;
 use std::alloc::Global;
 use sut_cert::{Answer, Certificate, print_certificate};
-use sut_lengths::{balanced_fits, certificate_fits};
 use sut_outside::FileName;
-use sut_readback::laws::reads_back;
 use sut_status::Status;
 use sut_tables::{Problem, Table};
-use sut_write::{accounts_text, balanced_text, screen_text, supply_text, use_text};
-
-// STUB
-fn report_text(_alloc: Global, p: &Problem, a: &Answer) -> Result<Vec<u8>, NoMemory>
-    ensures { IfOk result (λ v. v.items ≡ report.report_text p.now a.now) }
-{
-    Err(NoMemory)
-}
+use sut_write::{accounts_text, balanced_text, report_text, screen_text, supply_text, use_text};
 
 /// How a run ends that delivers an answer.
 pub(crate) fn status_of(answer: &Answer) -> Status
@@ -47,7 +37,8 @@ fn push_text(outputs: &mut Vec<Output>, name: FileName, text: Vec<u8>) -> Result
 // The four tables of a balanced answer.
 fn table_outputs(alloc: Global, p: &Problem, t: &Table) -> Result<Vec<Output>, NoMemory>
     requires { IsAdmissible p.now t.now }
-    ensures { IfOk result (λ outputs. texts_in outputs.items ≡ table_files p.now t.now) }
+    ensures texts { IfOk result (λ outputs. texts_in outputs.items ≡ table_files p.now t.now) }
+    ensures spells { OnOk result (SpellsTable p.now t.now) }
 {
     let balanced = balanced_text(alloc, p, t)?;
     let supply = supply_text(alloc, p, t)?;
@@ -71,7 +62,6 @@ fn push_certificate(
     ensures text { OnOk result (texts_in outputs.new.items ≡ texts_in outputs.old.items ++ certificate_file p.now c.now ∷ []) }
     ensures spells { OnOk result (SpellsCertificate p.now c.now) }
 {
-    certificate_fits(p, c);
     let text = print_certificate(alloc, p, c)?;
     push_text(outputs, FileName::CertificateCsv, text)?;
     Ok(())
@@ -90,8 +80,6 @@ fn balanced_outputs(
     ensures table { OnOk result (SpellsTable p.now t.now) }
     ensures certificate { OnOk result (SpellsCertificate p.now c.now) }
 {
-    reads_back(p, t);
-    balanced_fits(p, t);
     let mut outputs = table_outputs(alloc, p, t)?;
     push_certificate(alloc, p, c, &mut outputs)?;
     Ok(outputs)

@@ -3,7 +3,7 @@ use Rattle.sut_outside.specs.declared.names.FileName.TheVariants.{CertificateCsv
 use Rattle.sut_cert.specs.CertificateFile.{certificate_of}
 use Rattle.sut_cert.specs.CertificateText.{certificate_text}
 use Rattle.sut_run.specs.Outputs.{texts_in}
-use Rattle.sut_run.proofs.Delivered.{by-text}
+use Rattle.sut_run.proofs.Delivered.{by-text, short-text}
 use Rattle.sut_run.proofs.outputs.push_certificate.Goals as goal
 
 pub returns-clause-text : goal.returns-clause-text
@@ -12,6 +12,6 @@ returns-clause-text c =
 
 pub returns-clause-spells : goal.returns-clause-spells
 returns-clause-spells c = record {
-  short = c.certificate_fits.ensures;
+  short = short-text _ (certificate_text c.args.p.now.classes c.args.c.now) c.in_ok-text.ensures.text c.in_ok-text.ensures.size;
   read = by-text (certificate_of c.args.p.now) c.args.c.now _ (certificate_text c.args.p.now.classes c.args.c.now) c.in_ok-text.ensures.text c.in_ok-text.ensures.reads_back;
 }
