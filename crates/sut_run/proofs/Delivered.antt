@@ -1,12 +1,12 @@
 -- A delivery after the reading part, and what each answer says.
-use Rattle.std.proofs.Common.{◌≡◌, ◌≢◌, ◌≤◌, ◌<◌, ◌∙◌, ℕ, ℤ, zero, suc, List, map, length, Option, Some, None, Result, Ok, Err, Contains, IfSome, inl, inr, refl, sym, ap, subst, arith}
+use Rattle.std.proofs.Common.{◌≡◌, ◌≤◌, ℕ, ℤ, zero, suc, List, map, length, Option, Some, None, Result, Ok, Err, Contains, IfSome, inl, inr, refl, sym, ap, subst, arith}
 use Rattle.std.specs.Prelude.{IsOk}
 use Rattle.sut_outside.specs.declared.names.FileName.{FileName}
 use Rattle.sut_outside.specs.declared.names.FileName.TheVariants.{SourceCsv}
 use Rattle.sut_outside.specs.declared.shelf.TheConstants.{FILE_LIMIT}
 use Rattle.sut_outside.specs.Files.{Files, SameFiles, Told}
 use Rattle.sut_outside.specs.Causes.{Rose}
-use Rattle.sut_outside.specs.Deliveries.{StoppedAt, WrittenAll}
+use Rattle.sut_outside.specs.Deliveries.{WrittenAll}
 use Rattle.sut_outside.proofs.Told.{same_files, told_as}
 use Rattle.sut_records.specs.FirstFault.{and_then, fault_as}
 use Rattle.sut_settings.specs.SettingsFacts.{SettingsFacts}
@@ -23,13 +23,13 @@ use Rattle.sut_input.specs.Reads.{FailsAmong, Refuses}
 use Rattle.sut_input.specs.declared.faults.InputFault.{InputFault}
 use Rattle.sut_input.specs.declared.faults.InputFault.TheVariants as fault
 use Rattle.sut_status.specs.declared.statuses.Status.{Status}
-use Rattle.sut_status.specs.declared.statuses.Status.TheVariants.{Balanced, NoMemory, Usage, Infeasible, BadSettings, BadClasses, BadSource, ReadFault, WriteFault, Missing, SinkFault, TooLong}
+use Rattle.sut_status.specs.declared.statuses.Status.TheVariants.{Balanced, NoMemory, Usage, Infeasible, WriteFault, SinkFault}
 use Rattle.sut_run.specs.declared.commands.Command.TheVariants.{Balance}
 use Rattle.sut_run.specs.Commands.{read_names, written_names}
 use Rattle.sut_run.specs.Inputs.{for_balance, input_of, refused, to_balance}
 use Rattle.sut_run.specs.Deliveries.{answer_files, balance_delivery, status_of}
 use Rattle.sut_run.specs.Steps.{Delivered, FailsWriting, IfReadFault, IfWriteFault, SameSent, Sends, StopsDelivery, StopsWriting, WritesEnd}
-use Rattle.sut_run.specs.Ends.{AnswersInput, Delivers, DeliversRight, LeavesAll, Stands}
+use Rattle.sut_run.specs.Ends.{AnswersInput, Delivers, DeliversRight, Stands}
 
 pub sent-same : (sent : Option (List ℕ)) → Told sent sent SameSent
 sent-same None = tt

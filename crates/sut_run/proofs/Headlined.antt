@@ -27,7 +27,6 @@ use Rattle.sut_readback.specs.BalancedText.{balanced_text}
 use Rattle.sut_input.specs.Inputs.{problem_in}
 use Rattle.sut_input.specs.declared.faults.InputFault.{InputFault}
 use Rattle.sut_input.specs.declared.faults.InputFault.TheVariants as fault
-use Rattle.sut_status.specs.declared.statuses.Status.{Status}
 use Rattle.sut_status.specs.declared.statuses.Status.TheVariants.{Balanced, Infeasible}
 use Rattle.sut_run.specs.declared.commands.Command.TheVariants.{Balance}
 use Rattle.sut_run.specs.Inputs.{for_balance, refused}

@@ -1,11 +1,7 @@
 -- Lists of outputs that are written in order.
-use Rattle.std.proofs.Common.{◌≡◌, ◌<◌, ◌≤◌, Contains, ◌+◌, ℕ, List, [], ◌∷◌, ◌++◌, ◌⊎◌, Err, Ok, Some, Result, length, get_or, take, drop, map, refl, sym, ◌∙◌, ap, subst, inl, inr, suc, add-one, arith, Bool, IsTrue}
+use Rattle.std.proofs.Common.{◌≡◌, ◌<◌, Contains, ◌+◌, ℕ, List, [], ◌∷◌, ◌++◌, ◌⊎◌, Err, Some, length, get_or, take, drop, map, refl, sym, ◌∙◌, ap, subst, inl, inr, suc, add-one}
 use Rattle.std.proofs.lemmas.List.{take_more, map-append, take-append-drop, get_or-map, length-map}
-use Rattle.std.specs.Str.{bytes_eq}
-use Rattle.std.proofs.lemmas.Slice.Eq.{slice_eq-Decides}
-use Rattle.std.proofs.lemmas.Bool.Decides.{Decides-eqb}
 use Rattle.std.proofs.Math.Seq.{drop-cons}
-use Rattle.sut_outside.specs.declared.names.FileName.{FileName}
 use Rattle.sut_outside.specs.Files.{Files, SameOtherFiles}
 use Rattle.sut_outside.specs.Deliveries.{WrittenAll, StoppedAt}
 use Rattle.sut_outside.proofs.Writing.{written_more, stopped_next}

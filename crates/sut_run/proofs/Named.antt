@@ -15,6 +15,10 @@ use Rattle.sut_run.specs.Ends.{AnswersInput, IsDone, LeavesAll}
 use Rattle.sut_run.proofs.Delivered.{sent-same}
 use Rattle.sut_run.proofs.Complete.{complete_from}
 
+-- there is one command
+pub only-balance : (c : Command) → c ≡ Balance
+only-balance Balance = refl
+
 pub some-command : (o : Option Command) → o ≡ Some Balance → o ≡ None → ⊥
 some-command None e n = cc
 some-command (Some k) e n = cc
@@ -37,33 +41,33 @@ pub write-names : (o : Option Command) → o ≡ Some Balance → (s : Status) (
     → IfWriteFault s (λ failed. Rose before now × (last ≡ Some failed) × IfSome o (λ k. Contains (written_names k) failed))
 write-names o e s before now last h = subst (λ x. IfWriteFault s (λ failed. Rose before now × (last ≡ Some failed) × IfSome x (λ k. Contains (written_names k) failed))) (sym e) h
 
-if-read : (s : Status) (R : Type 0) (P : FileName → Type 0) → IfReadFault s (λ n. R × P n) → IfReadFault s (λ n. R)
-if-read Balanced R P h = tt
-if-read NoMemory R P h = tt
-if-read Usage R P h = tt
-if-read Infeasible R P h = tt
-if-read (BadSettings e) R P h = tt
-if-read (BadClasses e) R P h = tt
-if-read (BadSource e) R P h = tt
-if-read (ReadFault n) R P h = h.0
-if-read (WriteFault n) R P h = tt
-if-read (Missing n) R P h = tt
-if-read SinkFault R P h = tt
-if-read (TooLong n) R P h = tt
+if-read : (s : Status) (R : Type 0) (P Q : FileName → Type 0) → IfReadFault s (λ n. R × P n × Q n) → IfReadFault s (λ n. R)
+if-read Balanced R P Q h = tt
+if-read NoMemory R P Q h = tt
+if-read Usage R P Q h = tt
+if-read Infeasible R P Q h = tt
+if-read (BadSettings e) R P Q h = tt
+if-read (BadClasses e) R P Q h = tt
+if-read (BadSource e) R P Q h = tt
+if-read (ReadFault n) R P Q h = h.0
+if-read (WriteFault n) R P Q h = tt
+if-read (Missing n) R P Q h = tt
+if-read SinkFault R P Q h = tt
+if-read (TooLong n) R P Q h = tt
 
-if-write : (s : Status) (R : Type 0) (P : FileName → Type 0) → IfWriteFault s (λ n. R × P n) → IfWriteFault s (λ n. R)
-if-write Balanced R P h = tt
-if-write NoMemory R P h = tt
-if-write Usage R P h = tt
-if-write Infeasible R P h = tt
-if-write (BadSettings e) R P h = tt
-if-write (BadClasses e) R P h = tt
-if-write (BadSource e) R P h = tt
-if-write (ReadFault n) R P h = tt
-if-write (WriteFault n) R P h = h.0
-if-write (Missing n) R P h = tt
-if-write SinkFault R P h = tt
-if-write (TooLong n) R P h = tt
+if-write : (s : Status) (R : Type 0) (P Q : FileName → Type 0) → IfWriteFault s (λ n. R × P n × Q n) → IfWriteFault s (λ n. R)
+if-write Balanced R P Q h = tt
+if-write NoMemory R P Q h = tt
+if-write Usage R P Q h = tt
+if-write Infeasible R P Q h = tt
+if-write (BadSettings e) R P Q h = tt
+if-write (BadClasses e) R P Q h = tt
+if-write (BadSource e) R P Q h = tt
+if-write (ReadFault n) R P Q h = tt
+if-write (WriteFault n) R P Q h = h.0
+if-write (Missing n) R P Q h = tt
+if-write SinkFault R P Q h = tt
+if-write (TooLong n) R P Q h = tt
 
 -- where the input is given and no count rose, the run is done, or memory ran out
 pub complete-told : (held : Option Files) (s : Status) (before now : ℕ) (last : Option FileName) {K : Type 0} → IfSome held (λ files. AnswersInput Balance files s)
@@ -73,4 +77,4 @@ pub complete-told : (held : Option Files) (s : Status) (before now : ℕ) (last 
     → IfSome held (λ files. IsOk (input_of Balance None files) → ¬ Rose before now → ¬ K → (s ≡ NoMemory) ⊎ IsDone s)
 complete-told None s before now last says read write sink = tt
 complete-told (Some files) s before now last says read write sink =
-    complete_from Balance files _ _ s says (if-read s (Rose before now) (λ failed. (last ≡ Some failed) × Contains (read_names Balance) failed) read) (if-write s (Rose before now) (λ failed. (last ≡ Some failed) × Contains (written_names Balance) failed) write) sink
+    complete_from Balance files _ _ s says (if-read s (Rose before now) (λ failed. last ≡ Some failed) (λ failed. Contains (read_names Balance) failed) read) (if-write s (Rose before now) (λ failed. last ≡ Some failed) (λ failed. Contains (written_names Balance) failed) write) sink

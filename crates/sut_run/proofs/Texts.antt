@@ -1,5 +1,5 @@
 -- Lists of names and texts.
-use Rattle.std.proofs.Common.{◌≡◌, ◌∙◌, ℕ, List, [], ◌∷◌, ◌++◌, ap, sym, subst, map}
+use Rattle.std.proofs.Common.{◌≡◌, ◌∙◌, List, [], ◌∷◌, ◌++◌, ap}
 use Rattle.std.proofs.lemmas.List.{map-append}
 use Rattle.sut_run.specs.declared.writing.Output.{Output}
 use Rattle.sut_run.specs.Outputs.{named_text, texts_in}

@@ -1,5 +1,5 @@
 -- Words of a command.
-use Rattle.std.proofs.Common.{◌≡◌, ◌≤◌, ◌<◌, ℕ, String, List, [], ◌∷◌, None, length, get_or, map, string_bytes, sym, ap, refl, arith}
+use Rattle.std.proofs.Common.{◌≡◌, ◌≤◌, ◌<◌, ℕ, List, [], ◌∷◌, None, length, get_or, sym, ap, refl, arith}
 use Rattle.sut_run.specs.Commands.{command_of}
 
 -- a list of one

@@ -1,5 +1,5 @@
 -- What a run is given: a function of the command and of the files as they stood at entry.
-use Rattle.std.specs.Prelude.{Option, Result, Ok, Err}
+use Rattle.std.specs.Prelude.{Option, Result, Ok}
 use Rattle.sut_outside.specs.declared.names.FileName.{FileName}
 use Rattle.sut_outside.specs.declared.names.FileName.TheVariants.{SourceCsv}
 use Rattle.sut_outside.specs.Files.{Files}

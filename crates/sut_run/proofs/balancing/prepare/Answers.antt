@@ -1,4 +1,3 @@
-use Rattle.std.proofs.Common.{◌≡◌}
 use Rattle.sut_run.proofs.balancing.prepare.Goals as goal
 
 pub returns : goal.returns

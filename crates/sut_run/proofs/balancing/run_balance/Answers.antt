@@ -1,4 +1,4 @@
-use Rattle.std.proofs.Common.{◌≡◌, ◌≤◌, ◌∙◌, ℕ, List, Ok, Err, Some, None, Contains, IfSome, map, inl, ap, sym, subst}
+use Rattle.std.proofs.Common.{◌≡◌, ◌∙◌, ℕ, List, Ok, Err, Some, None, Contains, IfSome, map, inl, ap, sym, subst}
 use Rattle.sut_outside.specs.declared.names.FileName.{FileName}
 use Rattle.sut_outside.specs.declared.names.FileName.TheVariants.{SourceCsv}
 use Rattle.sut_outside.specs.Files.{Files, SameFiles, Told}
@@ -6,16 +6,14 @@ use Rattle.sut_outside.specs.Causes.{Rose}
 use Rattle.sut_outside.proofs.Told.{told_as, told_then, told_with}
 use Rattle.sut_input.specs.Inputs.{problem_in}
 use Rattle.sut_status.specs.declared.statuses.Status.{Status}
-use Rattle.sut_status.specs.declared.statuses.Status.TheVariants.{Balanced, Infeasible, NoMemory}
+use Rattle.sut_status.specs.declared.statuses.Status.TheVariants.{NoMemory}
 use Rattle.sut_run.specs.declared.commands.Command.TheVariants.{Balance}
 use Rattle.sut_run.specs.declared.writing.Output.{Output}
 use Rattle.sut_run.specs.Commands.{read_names, written_names}
-use Rattle.sut_run.specs.Deliveries.{answer_files}
 use Rattle.sut_run.specs.Outputs.{texts_in}
-use Rattle.sut_run.specs.Steps.{Delivered, IfReadFault, IfWriteFault, SameSent}
-use Rattle.sut_run.specs.Ends.{AnswersInput, LeavesAll, Stands}
-use Rattle.sut_run.specs.Headlines.{Headline, WritesCut, WritesLeast}
-use Rattle.sut_run.proofs.Delivered.{IsAnswer, IsMade, IsRefusal, IsStop, WasRead, done-answers, done-reads, done-stands, done-writes, failed-answers, failed-reads, failed-stands, failed-writes, is-answer, is-refusal, is-stop, refused-answers, refused-reads, refused-told, refused-writes, sent-same, whatever}
+use Rattle.sut_run.specs.Steps.{Delivered, IfReadFault, IfWriteFault}
+use Rattle.sut_run.specs.Ends.{AnswersInput, Stands}
+use Rattle.sut_run.proofs.Delivered.{IsAnswer, IsRefusal, IsStop, done-answers, done-reads, done-stands, done-writes, failed-answers, failed-reads, failed-stands, failed-writes, is-answer, is-refusal, is-stop, refused-answers, refused-reads, refused-told, refused-writes, sent-same, whatever}
 use Rattle.sut_run.proofs.Headlined.{balanced-told, infeasible-told}
 use Rattle.sut_run.proofs.Lists.{names_in}
 use Rattle.sut_run.proofs.balancing.run_balance.Goals as goal

@@ -1,6 +1,6 @@
-use Rattle.std.proofs.Common.{◌≡◌, ◌≤◌, ◌<◌, ◌∙◌, [], ◌∷◌, length, map, string_bytes, sym, ap, arith}
+use Rattle.std.proofs.Common.{◌≡◌, ◌∙◌, [], ◌∷◌, map, string_bytes, sym, ap, arith}
 use Rattle.std.proofs.lemmas.List.{length-map}
-use Rattle.sut_run.specs.Commands.{command_of, named}
+use Rattle.sut_run.specs.Commands.{named}
 use Rattle.sut_run.proofs.Words.{no-command, one_item}
 use Rattle.sut_run.proofs.commands.command_named.Goals as goal
 

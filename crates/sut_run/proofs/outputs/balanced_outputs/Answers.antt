@@ -1,4 +1,4 @@
-use Rattle.std.proofs.Common.{◌≡◌, ◌∙◌, ◌++◌, ◌∷◌, [], ap}
+use Rattle.std.proofs.Common.{◌∙◌, ◌++◌, ◌∷◌, [], ap}
 use Rattle.sut_run.specs.Deliveries.{certificate_file}
 use Rattle.sut_run.proofs.outputs.balanced_outputs.Goals as goal
 

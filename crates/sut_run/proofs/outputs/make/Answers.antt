@@ -1,4 +1,3 @@
-use Rattle.std.proofs.Common.{◌≡◌, ◌∙◌}
 use Rattle.sut_run.proofs.Delivered.{has-table}
 use Rattle.sut_run.proofs.outputs.make.Goals as goal
 

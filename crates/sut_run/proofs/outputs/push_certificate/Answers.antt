@@ -1,4 +1,4 @@
-use Rattle.std.proofs.Common.{◌≡◌, ◌∙◌, ◌++◌, ◌∷◌, [], List, ℕ, ap}
+use Rattle.std.proofs.Common.{◌∙◌, ◌++◌, ◌∷◌, [], List, ℕ, ap}
 use Rattle.sut_outside.specs.declared.names.FileName.TheVariants.{CertificateCsv}
 use Rattle.sut_cert.specs.CertificateFile.{certificate_of}
 use Rattle.sut_cert.specs.CertificateText.{certificate_text}

@@ -1,4 +1,3 @@
-use Rattle.std.proofs.Common.{◌≡◌}
 use Rattle.sut_run.proofs.Texts.{texts-pushed}
 use Rattle.sut_run.proofs.outputs.push_text.Goals as goal
 

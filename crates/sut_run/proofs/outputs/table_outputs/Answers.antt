@@ -1,4 +1,3 @@
-use Rattle.std.proofs.Common.{◌≡◌}
 use Rattle.sut_readback.specs.BalancedFile.{balanced_of}
 use Rattle.sut_readback.specs.BalancedText.{balanced_text}
 use Rattle.sut_run.proofs.Delivered.{by-text, short-text}

@@ -1,56 +1,52 @@
-use Rattle.std.proofs.Common.{◌≡◌, ◌↔◌, ◌⊎◌, ◌∙◌, Some, None, Ok, IfSome, Contains, map, string_bytes, ap, refl, sym, subst}
+use Rattle.std.proofs.Common.{◌≡◌, ◌⊎◌, ◌∙◌, Some, None, IfSome, map, string_bytes, ap, refl, sym, subst}
 use Rattle.std.specs.Prelude.{IsOk}
-use Rattle.sut_outside.specs.declared.names.FileName.{FileName}
 use Rattle.sut_outside.specs.Files.{Files, Told}
 use Rattle.sut_outside.specs.Causes.{Rose}
-use Rattle.sut_status.specs.declared.statuses.Status.{Status}
 use Rattle.sut_status.specs.declared.statuses.Status.TheVariants.{Balanced, Infeasible, NoMemory, Usage}
 use Rattle.sut_run.specs.declared.commands.Command.{Command}
-use Rattle.sut_run.specs.declared.commands.Command.TheVariants.{Balance}
-use Rattle.sut_run.specs.Commands.{command_of, read_names, written_names}
+use Rattle.sut_run.specs.Commands.{command_of}
 use Rattle.sut_run.specs.Inputs.{input_of}
-use Rattle.sut_run.specs.Steps.{IfReadFault, IfWriteFault}
 use Rattle.sut_run.specs.Ends.{AnswersInput, IsDone, Stands}
 use Rattle.sut_run.specs.Headlines.{Headline, WritesCut, WritesLeast}
-use Rattle.sut_run.proofs.Named.{complete-told, for-command, no-command-told, read-names, some-command, write-names}
+use Rattle.sut_run.proofs.Named.{complete-told, for-command, no-command-told, only-balance, read-names, some-command, write-names}
 use Rattle.sut_run.proofs.runs.run.Goals as goal
 
 pub returns-in-Some-Balance-clause-usage : goal.returns-in-Some-Balance-clause-usage
 returns-in-Some-Balance-clause-usage g c =
-    ((λ e. absurd (c.run_balance.ensures.used e)), (λ e. absurd (some-command (command_of (map string_bytes c.args.words.now)) (sym c.command_named.ensures ∙ c.in-Some-Balance.is ∙ ap Some c.in-Some-Balance.field-0-is) e)))
+    ((λ e. absurd (c.run_balance.ensures.used e)), (λ e. absurd (some-command (command_of (map string_bytes c.args.words.now)) (sym c.command_named.ensures ∙ c.in-Some-Balance.is ∙ ap Some (only-balance c.in-Some-Balance.field-0)) e)))
 
 pub returns-in-Some-Balance-clause-unused : goal.returns-in-Some-Balance-clause-unused
 returns-in-Some-Balance-clause-unused g c e =
-    absurd (some-command (command_of (map string_bytes c.args.words.now)) (sym c.command_named.ensures ∙ c.in-Some-Balance.is ∙ ap Some c.in-Some-Balance.field-0-is) e)
+    absurd (some-command (command_of (map string_bytes c.args.words.now)) (sym c.command_named.ensures ∙ c.in-Some-Balance.is ∙ ap Some (only-balance c.in-Some-Balance.field-0)) e)
 
 pub returns-in-Some-Balance-clause-input : goal.returns-in-Some-Balance-clause-input
 returns-in-Some-Balance-clause-input g c =
-    for-command (command_of (map string_bytes c.args.words.now)) (sym c.command_named.ensures ∙ c.in-Some-Balance.is ∙ ap Some c.in-Some-Balance.field-0-is) (λ (k : Command). IfSome (g.F.Shelf.files c.args.shelf.now) (λ (files : Files). AnswersInput k files c.run_balance.result)) c.run_balance.ensures.input
+    for-command (command_of (map string_bytes c.args.words.now)) (sym c.command_named.ensures ∙ c.in-Some-Balance.is ∙ ap Some (only-balance c.in-Some-Balance.field-0)) (λ (k : Command). IfSome (g.F.Shelf.files c.args.shelf.now) (λ (files : Files). AnswersInput k files c.run_balance.result)) c.run_balance.ensures.input
 
 pub returns-in-Some-Balance-clause-stands : goal.returns-in-Some-Balance-clause-stands
 returns-in-Some-Balance-clause-stands g c =
-    for-command (command_of (map string_bytes c.args.words.now)) (sym c.command_named.ensures ∙ c.in-Some-Balance.is ∙ ap Some c.in-Some-Balance.field-0-is) (λ (k : Command). Told (g.F.Shelf.files c.args.shelf.now) (g.F.Shelf.files c.run_balance.new.shelf) (Stands k c.run_balance.result (g.K.Sink.sent c.args.out.now) (g.K.Sink.sent c.run_balance.new.out))) c.run_balance.ensures.stands
+    for-command (command_of (map string_bytes c.args.words.now)) (sym c.command_named.ensures ∙ c.in-Some-Balance.is ∙ ap Some (only-balance c.in-Some-Balance.field-0)) (λ (k : Command). Told (g.F.Shelf.files c.args.shelf.now) (g.F.Shelf.files c.run_balance.new.shelf) (Stands k c.run_balance.result (g.K.Sink.sent c.args.out.now) (g.K.Sink.sent c.run_balance.new.out))) c.run_balance.ensures.stands
 
 pub returns-in-Some-Balance-clause-read_fault : goal.returns-in-Some-Balance-clause-read_fault
 returns-in-Some-Balance-clause-read_fault g c =
-    read-names (command_of (map string_bytes c.args.words.now)) (sym c.command_named.ensures ∙ c.in-Some-Balance.is ∙ ap Some c.in-Some-Balance.field-0-is) c.run_balance.result _ _ _ c.run_balance.ensures.read_fault
+    read-names (command_of (map string_bytes c.args.words.now)) (sym c.command_named.ensures ∙ c.in-Some-Balance.is ∙ ap Some (only-balance c.in-Some-Balance.field-0)) c.run_balance.result _ _ _ c.run_balance.ensures.read_fault
 
 pub returns-in-Some-Balance-clause-write_fault : goal.returns-in-Some-Balance-clause-write_fault
 returns-in-Some-Balance-clause-write_fault g c =
-    write-names (command_of (map string_bytes c.args.words.now)) (sym c.command_named.ensures ∙ c.in-Some-Balance.is ∙ ap Some c.in-Some-Balance.field-0-is) c.run_balance.result _ _ _ c.run_balance.ensures.write_fault
+    write-names (command_of (map string_bytes c.args.words.now)) (sym c.command_named.ensures ∙ c.in-Some-Balance.is ∙ ap Some (only-balance c.in-Some-Balance.field-0)) c.run_balance.result _ _ _ c.run_balance.ensures.write_fault
 
 pub returns-in-Some-Balance-clause-complete : goal.returns-in-Some-Balance-clause-complete
 returns-in-Some-Balance-clause-complete g c =
-    for-command (command_of (map string_bytes c.args.words.now)) (sym c.command_named.ensures ∙ c.in-Some-Balance.is ∙ ap Some c.in-Some-Balance.field-0-is) (λ (k : Command). IfSome (g.F.Shelf.files c.args.shelf.now) (λ (files : Files). IsOk (input_of k None files) → ¬ Rose (g.F.Shelf.faults c.args.shelf.now) (g.F.Shelf.faults c.run_balance.new.shelf) → ¬ Rose (g.K.Sink.faults c.args.out.now) (g.K.Sink.faults c.run_balance.new.out) → (c.run_balance.result ≡ NoMemory) ⊎ IsDone c.run_balance.result))
+    for-command (command_of (map string_bytes c.args.words.now)) (sym c.command_named.ensures ∙ c.in-Some-Balance.is ∙ ap Some (only-balance c.in-Some-Balance.field-0)) (λ (k : Command). IfSome (g.F.Shelf.files c.args.shelf.now) (λ (files : Files). IsOk (input_of k None files) → ¬ Rose (g.F.Shelf.faults c.args.shelf.now) (g.F.Shelf.faults c.run_balance.new.shelf) → ¬ Rose (g.K.Sink.faults c.args.out.now) (g.K.Sink.faults c.run_balance.new.out) → (c.run_balance.result ≡ NoMemory) ⊎ IsDone c.run_balance.result))
     (complete-told (g.F.Shelf.files c.args.shelf.now) c.run_balance.result _ _ _ c.run_balance.ensures.input c.run_balance.ensures.read_fault c.run_balance.ensures.write_fault c.run_balance.ensures.sink_fault)
 
 pub returns-in-Some-Balance-clause-balanced : goal.returns-in-Some-Balance-clause-balanced
 returns-in-Some-Balance-clause-balanced g c =
-    for-command (command_of (map string_bytes c.args.words.now)) (sym c.command_named.ensures ∙ c.in-Some-Balance.is ∙ ap Some c.in-Some-Balance.field-0-is) (λ (k : Command). c.run_balance.result ≡ Balanced → Told (g.F.Shelf.files c.args.shelf.now) (g.F.Shelf.files c.run_balance.new.shelf) (Headline k WritesLeast)) c.run_balance.ensures.balanced
+    for-command (command_of (map string_bytes c.args.words.now)) (sym c.command_named.ensures ∙ c.in-Some-Balance.is ∙ ap Some (only-balance c.in-Some-Balance.field-0)) (λ (k : Command). c.run_balance.result ≡ Balanced → Told (g.F.Shelf.files c.args.shelf.now) (g.F.Shelf.files c.run_balance.new.shelf) (Headline k WritesLeast)) c.run_balance.ensures.balanced
 
 pub returns-in-Some-Balance-clause-infeasible : goal.returns-in-Some-Balance-clause-infeasible
 returns-in-Some-Balance-clause-infeasible g c =
-    for-command (command_of (map string_bytes c.args.words.now)) (sym c.command_named.ensures ∙ c.in-Some-Balance.is ∙ ap Some c.in-Some-Balance.field-0-is) (λ (k : Command). c.run_balance.result ≡ Infeasible → Told (g.F.Shelf.files c.args.shelf.now) (g.F.Shelf.files c.run_balance.new.shelf) (Headline k WritesCut)) c.run_balance.ensures.infeasible
+    for-command (command_of (map string_bytes c.args.words.now)) (sym c.command_named.ensures ∙ c.in-Some-Balance.is ∙ ap Some (only-balance c.in-Some-Balance.field-0)) (λ (k : Command). c.run_balance.result ≡ Infeasible → Told (g.F.Shelf.files c.args.shelf.now) (g.F.Shelf.files c.run_balance.new.shelf) (Headline k WritesCut)) c.run_balance.ensures.infeasible
 
 pub returns-in-None-clause-usage : goal.returns-in-None-clause-usage
 returns-in-None-clause-usage g c =

@@ -1,4 +1,4 @@
-use Rattle.std.proofs.Common.{◌≡◌, Err, Ok, map}
+use Rattle.std.proofs.Common.{Err, map}
 use Rattle.sut_outside.specs.Deliveries.{WrittenAll}
 use Rattle.sut_outside.specs.Files.{Files, Told}
 use Rattle.sut_outside.specs.Sent.{AppendsPart}

@@ -1,4 +1,4 @@
-use Rattle.std.proofs.Common.{◌≡◌, ◌<◌, ◌+◌, Some, Err, length, take, get_or, arith}
+use Rattle.std.proofs.Common.{◌≡◌, ◌<◌, ◌+◌, Some, Err, length, take, arith}
 use Rattle.sut_outside.specs.Files.{SameOtherFiles}
 use Rattle.sut_outside.specs.Deliveries.{WrittenAll}
 use Rattle.sut_outside.proofs.Told.{told_then}

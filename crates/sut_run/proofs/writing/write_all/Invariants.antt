@@ -1,4 +1,4 @@
-use Rattle.std.proofs.Common.{◌≡◌, ◌≤◌, take, map}
+use Rattle.std.proofs.Common.{◌≤◌, take}
 use Rattle.sut_outside.specs.Files.{Told}
 use Rattle.sut_outside.specs.Deliveries.{WrittenAll}
 use Rattle.sut_run.specs.Outputs.{texts_in}
