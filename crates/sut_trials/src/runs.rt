@@ -13,6 +13,7 @@ use sut_source::{RowFault, SourceFault};
 // One product, one industry, one final use, one item.
 const SMALL: &[u8] = b"axis,code,kind\nproduct,X,plain\nindustry,A,\nfinal,F,\nitem,V,\n";
 
+#[derive(Drop)]
 struct Case {
     grades: &'static [u8],
     rows: &'static [u8],
