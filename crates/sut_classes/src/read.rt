@@ -303,7 +303,8 @@ fn read_under(
     }
 }
 
-/// Reads classes of either format.
+/// Reads classes: under the header `axis,code,kind` (format 1) or `axis,code,kind,group` (format 2) a code on each line,
+/// with its kind and its group. The answer is the lists, each in the order of the file, or the first fault.
 pub fn read_classes(alloc: Global, bytes: &[u8]) -> Result<Classes, ClassFault>
     ensures { result ≢ Err ClassFault.NoMemory → result ≡ classes_of bytes.now }
 {

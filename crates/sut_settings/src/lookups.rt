@@ -1,4 +1,4 @@
-// Grades and weights by settings.
+//! Grades and weights by settings.
 
 ghost use Rattle.std.specs.Prelude.{◌≡◌, ◌↔◌, ◌+◌, ◌∷◌, [], IsSome, IfSome, map, option_map, position, slice_get, unsigned_abs, length, ◌≤◌};
 ghost use Rattle.std.specs.Str.{bytes_eq};
@@ -42,7 +42,7 @@ pub fn grade_place(s: &Settings, grade: &[u8]) -> Option<u8>
     }
 }
 
-/// The name of the grade at a place; none where there is no such place.
+/// The name of the grade at a place, empty at place 0; none where there is no such place.
 pub fn grade_text(s: &Settings, place: u8) -> Option<&[u8]>
     ensures { option_map (λ t. t.now) result ≡ slice_get ([] ∷ map (λ g. g.name) s.now.grades) place }
 {
@@ -55,7 +55,8 @@ pub fn grade_text(s: &Settings, place: u8) -> Option<&[u8]>
     }
 }
 
-/// The weight of a target under the grade at a place; none where there is no such place.
+/// The weight, 1 to 10,000, of a target of -10^12 to 10^12 whole currency units under the grade at a place; none where
+/// there is no such place.
 pub fn weight_at(s: &Settings, place: u8, target: i64) -> Option<u32>
     requires { IsTarget target }
     ensures there { IsSome result ↔ (place ≤ length s.now.grades) }

@@ -1,4 +1,4 @@
-// Reading settings: a document of TOML, whose keys stand in byte order.
+//! Reading settings: a document of TOML, whose keys stand in byte order.
 
 ghost use Rattle.std.specs.Prelude.{◌≡◌, ◌≢◌, ◌++◌, ◌∷◌, [], pos, nat_le, map, option_map, OnOk, if◌then◌else◌};
 ghost use Rattle.csv.specs.Reading.{strip_bom as without_mark};

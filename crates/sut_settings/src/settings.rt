@@ -1,4 +1,6 @@
-// Settings as contracts see them: a scheme, and grades in byte order.
+//! Settings as contracts see them: a scheme, and grades in byte order.
+
+ghost use Rattle.sut_settings.specs.IsSettings.{IsSettings};
 
 use std::marker::Model;
 
@@ -7,18 +9,19 @@ use std::marker::Model;
 pub enum Scheme {
     /// The weight is the grade's number, 1 to 10,000.
     Flat,
-    /// The weight is the grade's number, 1 to 100, times 100 per unit of the target, and at least 1.
+    /// The weight is the hundredfold of the grade's number, 1 to 100, divided by the target's size in whole currency
+    /// units (at least 1), rounded down, and at least 1.
     Relative,
 }
 
-/// A grade: a code, and its number.
+/// A grade: a code, and its number, 1 to 10,000.
 #[derive(Drop)]
 pub struct Grade {
     pub name: Vec<u8>,
     pub number: u32,
 }
 
-/// The scheme and the grades of a year's settings.
+/// The scheme and the grades of a year's settings: at most 64 grades, in byte order of their names.
 #[derive(Drop)]
 pub struct Settings {
     pub(crate) scheme: Scheme,
@@ -35,4 +38,13 @@ impl Model for Settings {
     ghost view = { settings_facts };
 
     ghost invariant = { λ s. IsSettings (settings_facts s) };
+}
+
+impl Settings {
+    /// What all settings keep, as a fact: the call does nothing.
+    pub fn kept(&self)
+        ensures { IsSettings self.now }
+    {
+        let _scheme = &self.scheme;
+    }
 }

@@ -2,3 +2,11 @@ pub mod GradeLemmas
 pub mod RowLemmas
 pub mod LinedLemmas
 pub mod SourceLemmas
+pub mod ClassFacts
+pub mod PlainNames
+pub mod PrintedNumbers
+pub mod PrintedGrades
+pub mod PrintedRows
+pub mod ReadBack
+pub mod PrintLemmas
+pub mod Graded

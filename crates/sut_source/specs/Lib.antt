@@ -1,4 +1,5 @@
 pub mod RowFile
 pub mod RowRules
 pub mod SourceFile
+pub mod SourceText
 pub mod LinedRows

@@ -1,11 +1,12 @@
 //! Reading `source.csv`.
 
-ghost use Rattle.std.specs.Prelude.{◌≡◌, ◌≢◌, ◌<◌, ◌≤◌, ◌^◌, ◌∷◌, [], Ok, IfErr, IfOk, OnOk, length};
+ghost use Rattle.std.specs.Prelude.{◌≡◌, ◌≢◌, ◌<◌, ◌≤◌, ◌^◌, ◌∷◌, [], Ok, IfErr, IfOk, OnOk, length, All};
 ghost use Rattle.std.specs.Bool.{MatchBool};
 ghost use Rattle.csv.specs.Records.{fields_of};
 ghost use Rattle.sut_records.specs.RecordList.{same_fields};
 ghost use Rattle.sut_records.specs.FirstFault.{and_then, read_lines};
 ghost use Rattle.sut_source.specs.SourceFile.{problem_from, source_header, source_line, source_of, under_header};
+ghost use Rattle.sut_source.specs.SourceText.{HasGrade};
 ghost use Rattle.sut_source.specs.LinedRows.{KeepsLines, lined_rows};
 
 use crate::faults::{RowFault, SourceFault};
@@ -122,14 +123,16 @@ fn read_under(
 }
 
 /// Reads a source: the header `kind,a,b,c,target,grade,lower,upper`, and a row on each later line. The answer is the
-/// problem of these rows, in measure order, or the first fault with its line; `NoMemory` may stand at any line.
+/// problem of these rows, in measure order, or the first fault with its line; `NoMemory` may stand at any line. Each row
+/// has a grade of the settings, and this grade's weight for its target.
 pub fn read_source(
     alloc: Global,
     s: &Settings,
     classes: Classes,
     bytes: &[u8],
 ) -> Result<Problem, SourceFault>
-    ensures { (IfErr result (λ e. e.cause ≢ RowFault.NoMemory)) → result ≡ source_of s.now classes bytes.now }
+    ensures value { (IfErr result (λ e. e.cause ≢ RowFault.NoMemory)) → result ≡ source_of s.now classes bytes.now }
+    ensures graded { IfOk result (λ p. All (HasGrade s.now) p.rows) }
 {
     let mut records = Records::new(alloc, bytes);
     let mut row = ByteRecord::new(alloc);

@@ -6,6 +6,7 @@ ghost use Rattle.sut_records.specs.RecordList.{field as field_of};
 ghost use Rattle.sut_measures.specs.Fits.{fits};
 ghost use Rattle.sut_source.specs.RowFile.{name_fault, row_fields, row_in};
 ghost use Rattle.sut_source.specs.RowRules.{spelled_fields};
+ghost use Rattle.sut_source.specs.SourceText.{HasGrade};
 
 use crate::faults::RowFault;
 use crate::grades::{grade_in, weight_in};
@@ -17,7 +18,8 @@ use sut_records::field;
 use sut_settings::Settings;
 use sut_tables::Row;
 
-/// The fields of a row, as they stand in the file.
+/// The fields of a row, as they stand in the file: the measure's kind and up to three codes, the target, the grade with
+/// its penalty, and both bounds.
 #[derive(Clone, Copy)]
 pub struct RowText<'a> {
     pub kind: &'a [u8],
@@ -47,6 +49,7 @@ fn name_fault(fault: NameFault) -> RowFault
 pub fn row_from(s: &Settings, classes: &Classes, text: &RowText<'_>) -> Result<Row, RowFault>
     ensures value { result ≡ row_in s.now classes.now (spelled_fields text.now) }
     ensures fitting { IfOk result (λ r. IsTrue (fits classes.now r.measure)) }
+    ensures graded { IfOk result (HasGrade s.now) }
 {
     let measure = match read_name(classes, text.kind, text.a, text.b, text.c) {
         Ok(measure) => measure,
@@ -111,6 +114,7 @@ pub fn read_row(s: &Settings, classes: &Classes, fields: &[Vec<u8>]) -> Result<R
     requires { length fields.now ≡ 8 }
     ensures value { result ≡ row_in s.now classes.now (row_fields 0 (map (λ v. v.items) fields.now)) }
     ensures fitting { IfOk result (λ r. IsTrue (fits classes.now r.measure)) }
+    ensures graded { IfOk result (HasGrade s.now) }
 {
     let text = RowText {
         kind: text_at(fields, 0),

@@ -1,4 +1,5 @@
-//! Numbers, fields and labels as texts. After want of memory each appending call leaves `out` as it was.
+//! Whole numbers, fields and labels as texts. A call that appends answers `NoMemory` where memory runs out, and then
+//! leaves `out` as it was, but for `put_numbers` and `put_words`.
 #![tactic(auto)]
 
 ghost use Rattle.std.specs.Prelude.{◌≡◌, ◌++◌, ◌∷◌, [], if◌then◌else◌, is_ok, take, length, OnOk};
@@ -33,7 +34,7 @@ pub fn put_byte(out: &mut Vec<u8>, byte: u8) -> Result<(), NoMemory>
     }
 }
 
-/// Appends the one spelling of a whole number.
+/// Appends the one spelling of a whole number: `-` where it is below 0, and its digits, with no zero before another digit.
 pub fn put_whole(out: &mut Vec<u8>, n: i128) -> Result<(), NoMemory>
     ensures { Appends out.old.items out.new.items (is_ok result) (whole_text n) }
 {
@@ -61,7 +62,8 @@ fn put_in_quotes(out: &mut Vec<u8>, field: &[u8]) -> Result<(), NoMemory>
     put_byte(out, b'"')
 }
 
-/// Appends a field, in quotes exactly where a byte of it is a comma, a quote, CR or LF.
+/// Appends a field of a csv line, in quotes exactly where a byte of it is a comma, a quote, CR or LF. A quote within is
+/// doubled.
 pub fn put_field(out: &mut Vec<u8>, field: &[u8]) -> Result<(), NoMemory>
     ensures { Appends out.old.items out.new.items (is_ok result) (field_text field.now) }
 {

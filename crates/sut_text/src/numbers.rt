@@ -7,9 +7,13 @@ ghost use Rattle.sut_text.specs.Number.{whole_of, bad_place, is_shortest, is_nar
 /// Why a text is no number. A place counts the bytes from 0.
 #[derive(Debug, Clone, Copy, PartialEq, Eq)]
 pub enum NumberFault {
+    /// The text has no byte.
     Empty,
+    /// The first place where a digit is wanted and not found; at place 0 a minus may stand too.
     BadByte(usize),
+    /// A zero stands before another digit, or behind a minus.
     NotShortest,
+    /// The number lies outside -2^127 to 2^127 - 1.
     TooWide,
 }
 
@@ -97,7 +101,7 @@ fn read_digits(minus: bool, start: usize, digits: &[u8]) -> Result<i128, NumberF
 }
 
 /// The number that a text spells: an optional minus and digits, with no zero before another digit
-/// and none after a minus.
+/// and none after a minus. The faults are found in the order of `NumberFault`.
 pub fn read_whole(bytes: &[u8]) -> Result<i128, NumberFault>
     ensures { result ≡ whole_of bytes.now }
 {

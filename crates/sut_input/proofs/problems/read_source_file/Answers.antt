@@ -14,10 +14,10 @@ returns-in-Err-clause-err g c = not-read-if c.args.name (source_of c.args.settin
 
 pub returns-in-Ok-read_source-clause-ok : goal.returns-in-Ok-read_source-clause-ok
 returns-in-Ok-read_source-clause-ok g c =
-    was-read-if c.args.name (source_of c.args.settings.now c.args.classes) BadSource (g.F.Shelf.files c.args.shelf.now) c.in-Ok.bytes.items c.in-Ok-read_source.problem c.in-Ok.ensures.ok (c.in-Ok-read_source.ensures tt ∙ ap (source_of c.args.settings.now c.args.classes) c.deref.ensures.value)
+    was-read-if c.args.name (source_of c.args.settings.now c.args.classes) BadSource (g.F.Shelf.files c.args.shelf.now) c.in-Ok.bytes.items c.in-Ok-read_source.problem c.in-Ok.ensures.ok (c.in-Ok-read_source.ensures.value tt ∙ ap (source_of c.args.settings.now c.args.classes) c.deref.ensures.value)
 
 pub returns-clause-err : goal.returns-clause-err
 returns-clause-err g c =
     let P : InputFault → Type 0 = λ f. IfSome (g.F.Shelf.files c.args.shelf.now) (λ (files : Files). Refuses (source_in c.args.name c.args.settings.now c.args.classes) files f) in
     subst P (sym c.source_fault.ensures)
-    (source-refused-if c.args.name (source_of c.args.settings.now c.args.classes) (g.F.Shelf.files c.args.shelf.now) c.in-Ok.bytes.items c.in-Err-read_source.fault c.in-Ok.ensures.ok (λ lack. c.in-Err-read_source.ensures lack ∙ ap (source_of c.args.settings.now c.args.classes) c.deref.ensures.value))
+    (source-refused-if c.args.name (source_of c.args.settings.now c.args.classes) (g.F.Shelf.files c.args.shelf.now) c.in-Ok.bytes.items c.in-Err-read_source.fault c.in-Ok.ensures.ok (λ lack. c.in-Err-read_source.ensures.value lack ∙ ap (source_of c.args.settings.now c.args.classes) c.deref.ensures.value))

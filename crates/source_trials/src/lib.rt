@@ -1,0 +1,7 @@
+//! Tests of the readers of classes and sources, and of what they print.
+#![tactic(auto)]
+
+#[cfg(test)]
+mod classes;
+#[cfg(test)]
+mod sources;
