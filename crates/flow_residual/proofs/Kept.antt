@@ -249,3 +249,14 @@ module _ {N A C : Type 0} (s : Flow N A C) (a tail head to : ℕ) (step x by v :
   push_is =
       let p = some_and (slice_get s.graph.arcs a) (λ b. (tail ≡ b.tail) × (head ≡ b.head)) ends in
       rw (p.1) (ap (λ z. record s { flows = set s.flows a z }) (push_value p.0 p.1))
+
+-- the number within an arc's bounds that is nearest to another may be its flow
+pub nearest_flows : (arcs : List Arc) (a : ℕ) (lo hi x y : ℤ) → IsSomeAnd (slice_get arcs a) (λ arc. (lo ≡ arc.lo) × (hi ≡ arc.hi)) → AreBounds lo hi → y ≡ nearest_within lo hi x →
+    IsSomeAnd (slice_get arcs a) (λ arc. IsFlow arc y)
+nearest_flows arcs a lo hi x y ends b e =
+    let p = some_and (slice_get arcs a) (λ arc. (lo ≡ arc.lo) × (hi ≡ arc.hi)) ends in
+    let f : IsFlow p.0 y = record {
+      low = subst (λ z. z ≤ℤ y) p.2.0 (rw e (nearest_low lo hi x));
+      high = subst (λ z. y ≤ℤ z) p.2.1 (rw e (nearest_high lo hi x b.ordered));
+    } in
+    rw (p.1) f

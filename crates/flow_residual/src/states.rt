@@ -84,6 +84,19 @@ impl<N: Name, A: Name, C: Cost> State<N, A, C> {
         self.graph.set_bounds(arc, lo, hi);
     }
 
+    /// Moves the flow of an arc to the number within its bounds that is nearest to this one.
+    pub fn set_flow(&mut self, arc: ArcId, x: i64)
+        requires { arc.0 < length self.old.graph.arcs }
+        ensures { IsSomeAnd (slice_get self.old.graph.arcs arc.0) (λ a. self.new ≡ record self.old { flows = slice_set self.old.flows arc.0 (nearest_within a.lo a.hi x) }) }
+    {
+        let before = self.flows[arc.0 as usize];
+        let (lo, hi) = self.graph.bounds(arc);
+        let after = nearest(lo, hi, x);
+        let (tail, head) = self.graph.ends(arc);
+        carry(&mut self.excesses, tail, head, gap(before, after));
+        self.flows[arc.0 as usize] = after;
+    }
+
     /// Gives a node another potential.
     pub fn set_potential(&mut self, n: NodeId, p: i128)
         requires there { n.0 < length self.old.graph.nodes }

@@ -10,6 +10,7 @@ ghost use Rattle.sut_circuit.specs.RowCosts.{cost_at};
 ghost use Rattle.sut_balance.specs.FoundOn.{IsFoundOn};
 
 use crate::by_account::{accounts_in, potentials_of};
+use crate::starting::first_table;
 use flow_residual::{Room, Steps};
 use flow_solve::{Outcome, solve};
 use no_memory::NoMemory;
@@ -73,7 +74,9 @@ pub fn balance<L: Ledger>(
     ensures right { IfOk result (IsRight p.now) }
     ensures infeasible { IfOk result (λ a. IsTrue (is_infeasible a) ↔ IsImpossible p.now) }
 {
+    let table = first_table(alloc, p)?;
     let mut circuit = build(alloc, p)?;
+    circuit.start_at(&table);
     let mut room = Room::for_state(alloc, &circuit.state)?;
     balance_in(alloc, p, &mut circuit, &mut room, steps)
 }

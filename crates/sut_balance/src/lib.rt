@@ -4,6 +4,7 @@
 
 pub mod balancing;
 mod by_account;
+mod starting;
 #[cfg(test)]
 mod tests;
 

@@ -19,3 +19,4 @@ pub mod LiveStays
 pub mod Changed
 pub mod Cleared
 pub mod WideArcs
+pub mod Started

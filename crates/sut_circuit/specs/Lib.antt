@@ -5,3 +5,4 @@ pub mod IsCircuit
 pub mod RowChanges
 pub mod RowCosts
 pub mod TableFlows
+pub mod Starts

@@ -7,6 +7,7 @@ pub mod circuits;
 pub mod costs;
 mod growing;
 pub mod laws;
+mod starting;
 pub mod table_flows;
 
 pub use circuits::{Circuit, build};
