@@ -1,107 +1,195 @@
-//! What a run writes, and what failing devices leave.
+//! The files that a run writes.
 
+use crate::years::{FLAT, GAP, SMALL, Year, ends, steady};
 use std::alloc::Global;
 use std::process::Abort;
 use std::test::Fail;
-use sut_outside::{FileName, MemoryShelf, MemorySink};
-use sut_run::{Status, run};
+use sut_outside::{FileName, MemorySink, SteadyShelf};
 
-const SETTINGS: &[u8] = b"scheme = \"flat\"\n";
+type Written = (FileName, Option<&'static str>);
 
-const CLASSES: &[u8] = b"axis,code,kind\nproduct,X,plain\nindustry,A,\nfinal,F,\nitem,V,\n";
-
-const SOURCE: &[u8] =
-    b"kind,a,b,c,target,grade,lower,upper\nmake,X,A,,100,,,\nbasic,X,F,,104,,,\nadded,V,A,,,,0,1000\n";
-
-// A shelf with the three files, whose listed calls fail.
-fn shelf_with(alloc: Global, fail: Vec<u64>) -> Result<MemoryShelf, Fail> {
-    let mut shelf = MemoryShelf::new(alloc, fail);
-    shelf.place(FileName::SettingsToml, SETTINGS)?;
-    shelf.place(FileName::ClassesCsv, CLASSES)?;
-    shelf.place(FileName::SourceCsv, SOURCE)?;
+// The shelf after the run of a year of one product, on which an older table stood.
+fn after(alloc: Global, rows: &str) -> Result<SteadyShelf, Fail> {
+    let year = Year {
+        settings: FLAT,
+        classes: SMALL,
+        rows,
+    };
+    let mut shelf = steady(alloc, &year)?;
+    shelf.place(FileName::UseCsv, b"old")?;
+    let mut out = MemorySink::new(alloc, 1000, Vec::new(alloc))?;
+    let _status = ends(alloc, &["balance"], &mut shelf, &mut out)?;
     Ok(shelf)
 }
 
-fn ends(
-    alloc: Global,
-    word: &str,
-    shelf: &mut MemoryShelf,
-    out: &mut MemorySink,
-) -> Result<Status, Fail> {
-    let words = vec![in alloc; String::from_str(alloc, word)?]?;
-    Ok(run(alloc, &words, shelf, out))
-}
-
-fn holds(rt: &impl Abort, shelf: &MemoryShelf, cases: &[(FileName, Option<&[u8]>)]) {
-    for (name, text) in cases {
-        assert!(rt; shelf.file(*name) == *text);
+fn check(rt: &impl Abort, shelf: &SteadyShelf, files: &[Written]) {
+    for (name, text) in files {
+        assert!(rt;
+            shelf.file(*name) == text.map(str::as_bytes),
+            "{}",
+            name.text()
+        );
     }
 }
+
+const BALANCED: &str = "kind,a,b,c,target,value
+make,X,A,,100,102
+basic,X,F,,104,102
+added,V,A,,,102
+purchase,X,F,,,102
+supply,X,,,,102
+output,A,,,,102
+value_added,A,,,,102
+item_total,V,,,,102
+final_total,F,,,,102
+gdp,,,,,102
+";
+
+const SUPPLY: &str = "product,make:A,import,supply,purchasers
+X,102,0,102,102
+:total,102,0,102,102
+";
+
+const USES: &str = "product,layer,industry:A,final:F,total
+X,basic,0,102,102
+X,purchasers,0,102,102
+:total,purchasers,0,102,102
+:total,added:V,102,,102
+:total,value_added,102,,102
+:total,output,102,,102
+";
+
+const ACCOUNTS: &str = "account,entry,value
+production,output,102
+production,intermediate,0
+production,taxes,0
+production,gdp,102
+income,item:V,102
+income,taxes,0
+income,gdp,102
+expenditure,final:F,102
+expenditure,imports,0
+expenditure,gdp,102
+industry:A,output,102
+industry:A,inputs,0
+industry:A,value_added,102
+product:X,supply,102
+product:X,used,102
+";
+
+const REPORT: &str =
+    "{\"answer\":\"balanced\",\"cost\":\"8\",\"gdp\":{\"expenditure\":102,\"income\":102,\"production\":102},\"rows\":3}
+";
 
 #[test]
 fn texts_of_a_balanced_answer(rt: HostRuntime) -> Result<(), Fail> {
-    let alloc = rt.alloc();
-    let mut shelf = shelf_with(alloc, Vec::new(alloc))?;
-    let mut out = MemorySink::new(alloc, 1000, Vec::new(alloc))?;
-    assert!(rt; ends(alloc, "balance", &mut shelf, &mut out)? == Status::Balanced);
-    let cases: [(FileName, Option<&[u8]>); 4] = [
-        (
-            FileName::BalancedCsv,
-            Some(
-                b"kind,a,b,c,target,value\nmake,X,A,,100,102\nbasic,X,F,,104,102\nadded,V,A,,,102\npurchase,X,F,,,102\nsupply,X,,,,102\noutput,A,,,,102\nvalue_added,A,,,,102\nitem_total,V,,,,102\nfinal_total,F,,,,102\ngdp,,,,,102\n",
-            ),
-        ),
-        (
-            FileName::SupplyCsv,
-            Some(
-                b"product,make:A,import,supply,purchasers\nX,102,0,102,102\n:total,102,0,102,102\n",
-            ),
-        ),
-        (
-            FileName::UseCsv,
-            Some(
-                b"product,layer,industry:A,final:F,total\nX,basic,0,102,102\nX,purchasers,0,102,102\n:total,purchasers,0,102,102\n:total,added:V,102,,102\n:total,value_added,102,,102\n:total,output,102,,102\n",
-            ),
-        ),
-        (
-            FileName::ReportJson,
-            Some(
-                b"{\"answer\":\"balanced\",\"cost\":\"8\",\"gdp\":{\"expenditure\":102,\"income\":102,\"production\":102},\"rows\":3}\n",
-            ),
-        ),
+    let shelf = after(rt.alloc(), GAP)?;
+    let files = [
+        (FileName::BalancedCsv, Some(BALANCED)),
+        (FileName::SupplyCsv, Some(SUPPLY)),
+        (FileName::UseCsv, Some(USES)),
+        (FileName::AccountsCsv, Some(ACCOUNTS)),
+        (FileName::ReportJson, Some(REPORT)),
+        (FileName::ReviewCsv, None),
     ];
-    holds(&rt, &shelf, &cases);
+    check(&rt, &shelf, &files);
     Ok(())
 }
 
-// Which call on the shelf fails, and how the run ends then.
+/// The accounts of that certificate, in order. All but the first two have one potential; the first two have one that is
+/// higher by 3, 4 or 5, since the make may rise at a slope of 5 and fall at one of 3, and the basic at -3 and -5.
+const ACCOUNTS_SHOWN: [&'static str; 10] = [
+    "supplied,X,,",
+    "used,X,,",
+    "bought,X,F,",
+    "adding,A,,",
+    "industry,A,,",
+    "making,A,,",
+    "final,F,,",
+    "item,V,,",
+    "spending,,,",
+    "income,,,",
+];
+
+// The potentials of a certificate that names these accounts; none where it names others.
+fn potentials_at(alloc: Global, text: &[u8], accounts: &[&str]) -> Result<Option<Vec<i128>>, Fail> {
+    let mut lines = str::from_utf8(text)?.lines();
+    if lines.next() != Some("account,a,b,potential") {
+        return Ok(None);
+    }
+    let mut potentials = Vec::new(alloc);
+    for account in accounts {
+        let Some(line) = lines.next() else {
+            return Ok(None);
+        };
+        let Some(number) = line.strip_prefix(*account) else {
+            return Ok(None);
+        };
+        potentials.push(number.parse::<i128>()?)?;
+    }
+    Ok(lines.next().is_none().then_some(potentials))
+}
+
 #[test]
-fn a_failing_shelf(rt: HostRuntime) -> Result<(), Fail> {
-    let alloc = rt.alloc();
-    let cases = [
-        (1, Status::ReadFault(FileName::SettingsToml)),
-        (2, Status::ReadFault(FileName::ClassesCsv)),
-        (3, Status::ReadFault(FileName::SourceCsv)),
-        (4, Status::WriteFault(FileName::BalancedCsv)),
-        (7, Status::WriteFault(FileName::AccountsCsv)),
-        (9, Status::WriteFault(FileName::ReportJson)),
-        (10, Status::Balanced),
-    ];
-    for (call, status) in cases {
-        let mut shelf = shelf_with(alloc, vec![in alloc; call]?)?;
-        let mut out = MemorySink::new(alloc, 1000, Vec::new(alloc))?;
-        assert!(rt; ends(alloc, "balance", &mut shelf, &mut out)? == status);
-        assert!(rt; out.text().is_empty() == (status != Status::Balanced));
+fn certificate_of_a_balanced_answer(rt: HostRuntime) -> Result<(), Fail> {
+    let shelf = after(rt.alloc(), GAP)?;
+    let text = shelf
+        .file(FileName::CertificateCsv)
+        .ok_or("no certificate")?;
+    let potentials = potentials_at(rt.alloc(), text, &ACCOUNTS_SHOWN)?.ok_or("other accounts")?;
+    let [supplied, used, others @ ..] = potentials.as_slice() else {
+        return Err("no potentials".into());
+    };
+    assert!(rt; supplied == used);
+    for other in others {
+        let rise = supplied.checked_sub(*other).ok_or("far apart")?;
+        assert!(rt; (3..=5).contains(&rise) && Some(other) == others.first());
     }
     Ok(())
 }
 
 #[test]
-fn other_words_and_a_failing_sink(rt: HostRuntime) -> Result<(), Fail> {
-    let alloc = rt.alloc();
-    let mut shelf = shelf_with(alloc, Vec::new(alloc))?;
-    let mut out = MemorySink::new(alloc, 1000, vec![in alloc; 1]?)?;
-    assert!(rt; ends(alloc, "now", &mut shelf, &mut out)? == Status::Usage);
-    assert!(rt; ends(alloc, "balance", &mut shelf, &mut out)? == Status::SinkFault);
+fn empty_source(rt: HostRuntime) -> Result<(), Fail> {
+    let shelf = after(rt.alloc(), "")?;
+    let files: [Written; 2] = [
+        (FileName::BalancedCsv, Some("kind,a,b,c,target,value\n")),
+        (FileName::CertificateCsv, Some("account,a,b,potential\n")),
+    ];
+    check(&rt, &shelf, &files);
+    Ok(())
+}
+
+const CUT: &str = "account,a,b
+bought,X,F
+adding,A,
+industry,A,
+making,A,
+final,F,
+item,V,
+spending,,
+income,,
+";
+
+const CUT_REPORT: &str = "{\"answer\":\"infeasible\",\"entering\":95,\"leaving\":90,\"rows\":3}\n";
+
+// No table is written, and older ones stay.
+#[test]
+fn texts_of_infeasible_answers(rt: HostRuntime) -> Result<(), Fail> {
+    let narrow = after(
+        rt.alloc(),
+        "make,X,A,,100,,0,90\nbasic,X,F,,100,,95,\nadded,V,A,,,,0,1000\n",
+    )?;
+    let files: [Written; 6] = [
+        (FileName::BalancedCsv, None),
+        (FileName::SupplyCsv, None),
+        (FileName::UseCsv, Some("old")),
+        (FileName::AccountsCsv, None),
+        (FileName::CertificateCsv, Some(CUT)),
+        (FileName::ReportJson, Some(CUT_REPORT)),
+    ];
+    check(&rt, &narrow, &files);
+    let alone = after(rt.alloc(), "supply,X,,,5,,5,5\n")?;
+    let files: [Written; 1] = [(FileName::CertificateCsv, Some("account,a,b\nused,X,\n"))];
+    check(&rt, &alone, &files);
     Ok(())
 }

@@ -2,6 +2,18 @@
 #![tactic(auto)]
 
 #[cfg(test)]
+mod balanced;
+#[cfg(test)]
+mod cuts;
+#[cfg(test)]
+mod devices;
+#[cfg(test)]
 mod files;
 #[cfg(test)]
-mod runs;
+mod limits;
+#[cfg(test)]
+mod lines;
+#[cfg(test)]
+mod refused;
+#[cfg(test)]
+mod years;

@@ -1,0 +1,169 @@
+//! Status lines, and the numbers that the program ends with.
+
+use std::alloc::Global;
+use std::process::Abort;
+use std::test::Fail;
+use sut_classes::{Axis, ClassFault};
+use sut_measures::Field;
+use sut_outside::FileName;
+use sut_run::Status;
+use sut_settings::SettingsFault;
+use sut_source::{RowFault, SourceFault};
+
+fn check(rt: &impl Abort, alloc: Global, cases: &[(Status, u8, &'static str)]) -> Result<(), Fail> {
+    for (status, code, text) in cases {
+        let line = status.line(alloc)?;
+        assert!(rt;
+            line.as_slice() == text.as_bytes() && status.code() == *code,
+            "{text}"
+        );
+    }
+    Ok(())
+}
+
+#[test]
+fn without_a_fault_of_input(rt: HostRuntime) -> Result<(), Fail> {
+    let cases = [
+        (Status::Balanced, 0, "sut: ok\n"),
+        (Status::NoMemory, 1, "sut: out of memory\n"),
+        (Status::Usage, 2, "sut: usage: a command of sut\n"),
+        (Status::Infeasible, 3, "sut: infeasible\n"),
+        (
+            Status::ReadFault(FileName::SourceCsv),
+            10,
+            "sut: cannot read source.csv\n",
+        ),
+        (
+            Status::WriteFault(FileName::AccountsCsv),
+            11,
+            "sut: cannot write accounts.csv\n",
+        ),
+        (
+            Status::Missing(FileName::ClassesCsv),
+            12,
+            "sut: missing classes.csv\n",
+        ),
+        (Status::SinkFault, 13, "sut: cannot print\n"),
+        (
+            Status::TooLong(FileName::SettingsToml),
+            14,
+            "sut: too long settings.toml\n",
+        ),
+    ];
+    check(&rt, rt.alloc(), &cases)
+}
+
+#[test]
+fn faults_of_settings(rt: HostRuntime) -> Result<(), Fail> {
+    let cases = [
+        (SettingsFault::Toml, "sut: settings.toml: toml\n"),
+        (
+            SettingsFault::UnknownKey(2),
+            "sut: settings.toml: unknown-key 2\n",
+        ),
+        (SettingsFault::NoScheme, "sut: settings.toml: no-scheme\n"),
+        (SettingsFault::BadScheme, "sut: settings.toml: bad-scheme\n"),
+        (SettingsFault::BadGrades, "sut: settings.toml: bad-grades\n"),
+        (SettingsFault::TooMany, "sut: settings.toml: too-many\n"),
+        (
+            SettingsFault::BadGrade(1),
+            "sut: settings.toml: bad-grade 1\n",
+        ),
+    ];
+    for (fault, text) in cases {
+        check(&rt, rt.alloc(), &[(Status::BadSettings(fault), 5, text)])?;
+    }
+    Ok(())
+}
+
+#[test]
+fn faults_of_classes(rt: HostRuntime) -> Result<(), Fail> {
+    let cases = [
+        (ClassFault::Csv(2), "sut: classes.csv line 2: csv\n"),
+        (ClassFault::Header, "sut: classes.csv: header\n"),
+        (
+            ClassFault::UnknownAxis(3),
+            "sut: classes.csv line 3: unknown-axis\n",
+        ),
+        (
+            ClassFault::BadCode(4),
+            "sut: classes.csv line 4: bad-code\n",
+        ),
+        (
+            ClassFault::UnknownKind(5),
+            "sut: classes.csv line 5: unknown-kind\n",
+        ),
+        (
+            ClassFault::UnknownGroup(6),
+            "sut: classes.csv line 6: unknown-group\n",
+        ),
+        (
+            ClassFault::Duplicate(7),
+            "sut: classes.csv line 7: duplicate\n",
+        ),
+        (
+            ClassFault::TooMany(Axis::Margin),
+            "sut: classes.csv: too-many margin\n",
+        ),
+        (
+            ClassFault::TooMany(Axis::ProductGroup),
+            "sut: classes.csv: too-many product_group\n",
+        ),
+    ];
+    for (fault, text) in cases {
+        check(&rt, rt.alloc(), &[(Status::BadClasses(fault), 6, text)])?;
+    }
+    Ok(())
+}
+
+#[test]
+fn faults_of_rows(rt: HostRuntime) -> Result<(), Fail> {
+    let cases = [
+        (RowFault::Csv, "sut: source.csv line 2: csv\n"),
+        (RowFault::Header, "sut: source.csv line 2: header\n"),
+        (
+            RowFault::UnknownKind,
+            "sut: source.csv line 2: unknown-kind\n",
+        ),
+        (
+            RowFault::UnknownCode(Field::B),
+            "sut: source.csv line 2: unknown-code b\n",
+        ),
+        (
+            RowFault::NotEmpty(Field::Grade),
+            "sut: source.csv line 2: not-empty grade\n",
+        ),
+        (
+            RowFault::WrongService,
+            "sut: source.csv line 2: wrong-service\n",
+        ),
+        (
+            RowFault::NotNumber(Field::Lower),
+            "sut: source.csv line 2: not-number lower\n",
+        ),
+        (
+            RowFault::OutOfRange(Field::Target),
+            "sut: source.csv line 2: out-of-range target\n",
+        ),
+        (
+            RowFault::UnknownGrade,
+            "sut: source.csv line 2: unknown-grade\n",
+        ),
+        (
+            RowFault::BadPenalty,
+            "sut: source.csv line 2: bad-penalty\n",
+        ),
+        (RowFault::NoTarget, "sut: source.csv line 2: no-target\n"),
+        (RowFault::Crossed, "sut: source.csv line 2: crossed\n"),
+        (
+            RowFault::Duplicate(12),
+            "sut: source.csv line 2: duplicate 12\n",
+        ),
+        (RowFault::TooMany, "sut: source.csv line 2: too-many\n"),
+    ];
+    for (cause, text) in cases {
+        let fault = SourceFault { line: 2, cause };
+        check(&rt, rt.alloc(), &[(Status::BadSource(fault), 7, text)])?;
+    }
+    Ok(())
+}

@@ -1,0 +1,67 @@
+//! The three files of a year, and runs over them.
+
+use std::alloc::Global;
+use std::test::Fail;
+use sut_outside::{FileName, MemoryShelf, Shelf, Sink, SteadyShelf};
+use sut_run::{Status, run};
+
+pub(crate) const FLAT: &str = "scheme = \"flat\"\n";
+
+/// One product, one industry, one final use, one item.
+pub(crate) const SMALL: &str = "axis,code,kind\nproduct,X,plain\nindustry,A,\nfinal,F,\nitem,V,\n";
+
+/// Supply and use that are 4 apart.
+pub(crate) const GAP: &str = "make,X,A,,100,,,\nbasic,X,F,,104,,,\nadded,V,A,,,,0,1000\n";
+
+pub(crate) const SOURCE_HEADER: &str = "kind,a,b,c,target,grade,lower,upper\n";
+
+/// The texts of a year; the source without its header.
+#[derive(Clone, Copy)]
+pub(crate) struct Year<'a> {
+    pub settings: &'a str,
+    pub classes: &'a str,
+    pub rows: &'a str,
+}
+
+pub(crate) fn joined(alloc: Global, head: &str, rest: &str) -> Result<String, Fail> {
+    let mut text = String::from_str(alloc, head)?;
+    text.push_str(rest)?;
+    Ok(text)
+}
+
+/// A shelf with the files of the year, which never fails.
+pub(crate) fn steady(alloc: Global, year: &Year<'_>) -> Result<SteadyShelf, Fail> {
+    let source = joined(alloc, SOURCE_HEADER, year.rows)?;
+    let mut shelf = SteadyShelf::new(alloc);
+    shelf.place(FileName::SettingsToml, year.settings.as_bytes())?;
+    shelf.place(FileName::ClassesCsv, year.classes.as_bytes())?;
+    shelf.place(FileName::SourceCsv, source.as_bytes())?;
+    Ok(shelf)
+}
+
+/// Puts the files of the year on a shelf.
+pub(crate) fn place_year(
+    alloc: Global,
+    year: &Year<'_>,
+    shelf: &mut MemoryShelf,
+) -> Result<(), Fail> {
+    let source = joined(alloc, SOURCE_HEADER, year.rows)?;
+    shelf.place(FileName::SettingsToml, year.settings.as_bytes())?;
+    shelf.place(FileName::ClassesCsv, year.classes.as_bytes())?;
+    shelf.place(FileName::SourceCsv, source.as_bytes())?;
+    Ok(())
+}
+
+/// How the run of these words ends.
+pub(crate) fn ends<F: Shelf, K: Sink>(
+    alloc: Global,
+    words: &[&str],
+    shelf: &mut F,
+    out: &mut K,
+) -> Result<Status, Fail> {
+    let mut list = Vec::new(alloc);
+    for word in words {
+        list.push(String::from_str(alloc, word)?)?;
+    }
+    Ok(run(alloc, &list, shelf, out))
+}
