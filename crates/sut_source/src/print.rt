@@ -95,7 +95,7 @@ fn put_row(out: &mut Vec<u8>, s: &Settings, classes: &Classes, row: &Row) -> Res
 /// none; the grade's name, with `:abs` or `:band:` and the width behind it where the penalty is no
 /// square; and both bounds, in whole currency units. Each row's grade has to be one of the
 /// settings, and its weight that of this grade for its target. The text reads back, with the same
-/// settings and classes, as the same problem. The time is linear in the length of the text.
+/// settings and classes, as the same problem.
 pub fn print_source(alloc: Global, s: &Settings, p: &Problem) -> Result<Vec<u8>, NoMemory>
     requires { All (HasGrade s.now) p.now.rows }
     ensures text { IfOk result (λ t. t.items ≡ source_text s.now p.now) }
