@@ -1,25 +1,21 @@
 -- A set that is closed off contradicts.
-use Rattle.std.proofs.Common.{◌≡◌, ℕ, zero, suc, ◌<◌, Bool, true, false, not, ◌&&◌, if◌then◌else◌, List, [], ◌∷◌, length, slice_get, Some, inl, inr, refl, ap, sym, subst, ◌∙◌, arith, ℤ, pos, negsuc, ◌+ℤ◌, ◌-ℤ◌, ◌*ℤ◌, neg_ℤ, ◌≤ℤ◌}
+use Rattle.std.proofs.Common.{◌≡◌, ℕ, zero, suc, ◌<◌, Bool, true, false, not, ◌&&◌, if◌then◌else◌, List, [], ◌∷◌, length, slice_get, Some, inl, inr, refl, ap, subst, ◌∙◌, arith, ℤ, pos, negsuc, ◌+ℤ◌, ◌-ℤ◌, ◌*ℤ◌, neg_ℤ, ◌≤ℤ◌}
 use Rattle.std.specs.List.{AllZip}
 use Rattle.std.proofs.Math.IntN.{*ℤ_comm, zero-*ℤ}
 use Rattle.std.proofs.lemmas.Int.{ints, by_lt_z}
 use Rattle.std.proofs.lemmas.Bool.{cases_eq, cases_Bool}
-use Rattle.std.proofs.lemmas.List.{get_or_past, get_or_default}
 use Rattle.std.proofs.lemmas.List.Elements.{recursion_from_All}
-use Rattle.std.proofs.lemmas.Option.{get_or_from_slice_get, slice_get_cases}
 use Rattle.flow_cost.specs.Integers.{mul-one, mul-neg}
 use Rattle.flow_graph.specs.declared.arcs.Arc.{Arc}
 use Rattle.flow_graph.specs.Circulation.{excess}
 use Rattle.flow_graph.specs.Contradiction.{in_set, entering_low, leaving_high, Contradicts}
 use Rattle.flow_graph.specs.Network.{IsArcAmong}
 use Rattle.flow_graph.proofs.Bounded.{flow_at}
-use Rattle.flow_graph.proofs.Grown.{among_at}
-use Rattle.flow_graph.proofs.Lookups.{read_once}
 use Rattle.flow_check.proofs.Sums.{sum_below, carried, carried-is}
 use Rattle.flow_residual.specs.Flows.{Flow, IsFlowOf}
-use Rattle.flow_residual.specs.Path.{Reaches}
 use Rattle.flow_solve.specs.Progress.{IsClosedOff}
-use Rattle.flow_solve.proofs.Reached.{reaches_on, reaches_self}
+use Rattle.flow_solve.specs.Scales.{IsShut}
+use Rattle.flow_solve.proofs.Shut.{closed_is_shut, source_inside}
 
 -- 1 for a member, 0 for another
 abbrev weight_of : Bool → ℤ
@@ -53,11 +49,11 @@ all_pressed set (b ∷ bs) [] h = elim h [ ]
 all_pressed set (b ∷ bs) (x ∷ xs) h = joined _ _ _ _ (entering_low set bs) (leaving_high set bs)
     (one_pressed (in_set set b.head) (in_set set b.tail) b.lo b.hi x h.0.leaving h.0.entering) (all_pressed set bs xs h.1)
 
-zip_each : (R : Arc → ℤ → Type 0) (arcs : List Arc) (xs : List ℤ) → length xs ≡ length arcs → ((a : ℕ) (arc : Arc) (x : ℤ) → slice_get arcs a ≡ Some arc → slice_get xs a ≡ Some x → R arc x) → AllZip R arcs xs
+pub zip_each : {X Y : Type 0} (R : X → Y → Type 0) (xs : List X) (ys : List Y) → length ys ≡ length xs → ((a : ℕ) (x : X) (y : Y) → slice_get xs a ≡ Some x → slice_get ys a ≡ Some y → R x y) → AllZip R xs ys
 zip_each R [] [] e h = tt
-zip_each R [] (x ∷ xs) e h = absurd (omega (arith, e))
-zip_each R (b ∷ bs) [] e h = absurd (omega (arith, e))
-zip_each R (b ∷ bs) (x ∷ xs) e h = (h zero b x refl refl, zip_each R bs xs (omega (arith, e)) (λ a arc y k l. h (suc a) arc y k l))
+zip_each R [] (y ∷ ys) e h = absurd (omega (arith, e))
+zip_each R (x ∷ xs) [] e h = absurd (omega (arith, e))
+zip_each R (x ∷ xs) (y ∷ ys) e h = (h zero x y refl refl, zip_each R xs ys (omega (arith, e)) (λ a b c k l. h (suc a) b c k l))
 
 sum_low : (f : ℕ → ℤ) (n : ℕ) → ((k : ℕ) → k < n → pos 0 ≤ℤ f k) → pos 0 ≤ℤ sum_below f n
 sum_low f zero h = omega (arith, ints)
@@ -71,43 +67,25 @@ sum_above f (suc n) a h l e = elim (cases_eq a n) [
 ]
 
 module _ {N A C : Type 0} (node_eq : N → N → Bool) (arc_eq : A → A → Bool) (span : C → ℤ) (s : Flow N A C) (set : List Bool) (source : ℕ) (kept : IsFlowOf node_eq arc_eq span s) (c : IsClosedOff (pos 1) s source set) where
-  member : (n : ℕ) → n < length s.graph.nodes → Reaches s (pos 1) source n → in_set set n ≡ true
-  member n l r = get_or_from_slice_get set n true false ((c.members n l).1 r)
-
-  reached : (n : ℕ) → n < length s.graph.nodes → in_set set n ≡ true → Reaches s (pos 1) source n
-  reached n l e = elim (slice_get_cases set n).1 [
-    | inl h ↦ (let same : h.0 ≡ true = sym h.3 ∙ get_or_default set n h.0 false h.1 ∙ e in (c.members n l).0 (h.2 ∙ ap Some same))
-    | inr h ↦ (let f = get_or_past set n false h.0 in absurd (cc))
-  ]
-
-  -- no move leads out of the set
-  move_stays : (a u v : ℕ) (arc : Arc) (x : ℤ) (up : Bool) → slice_get s.graph.arcs a ≡ Some arc → slice_get s.flows a ≡ Some x → u ≡ (if up then arc.tail else arc.head) → v ≡ (if up then arc.head else arc.tail) →
-      u < length s.graph.nodes → v < length s.graph.nodes → in_set set u ≡ true → (if up then x +ℤ pos 1 else arc.lo) ≤ℤ (if up then arc.hi else x -ℤ pos 1) → in_set set v ≡ true
-  move_stays a u v arc x up ea ex eu ev lu lv iu o = member v lv (reaches_on s (pos 1) source u v (record { arc = a; up = up }) (reached u lu iu)
-      (record { arc = arc; arc_is = ea; from_is = eu; to_is = ev })
-      (λ b d y h. let i : arc ≡ b = read_once s.graph.arcs a arc b ea h.arc_is in let j : x ≡ y = read_once s.flows a x y ex h.number_is in rw (← i, ← j) o))
+  shut : IsShut (pos 1) s (in_set set)
+  shut = closed_is_shut (pos 1) s set source kept.network.arcs_fit c
 
   pressed : (a : ℕ) (arc : Arc) (x : ℤ) → slice_get s.graph.arcs a ≡ Some arc → slice_get s.flows a ≡ Some x → IsPressed set arc x
   pressed a arc x ea ex =
       let f = flow_at s.graph.arcs s.flows a arc x kept.bounded ea ex in
-      let w = among_at (length s.graph.nodes) s.graph.arcs a arc kept.network.arcs_fit ea in
       record {
-        leaving = λ t h. by_lt_z x arc.hi
-            (λ l. let q = move_stays a arc.tail arc.head arc x true ea ex refl refl w.tail w.head t (omega (arith, ints, l)) in absurd (cc))
-            (λ l. omega (arith, ints, l, f.high));
-        entering = λ h t. by_lt_z arc.lo x
-            (λ l. let q = move_stays a arc.head arc.tail arc x false ea ex refl refl w.head w.tail h (omega (arith, ints, l)) in absurd (cc))
-            (λ l. omega (arith, ints, l, f.low));
+        leaving = λ t h. let l = shut.leaving a arc x ea ex t h in omega (arith, ints, l, f.high);
+        entering = λ h t. let l = shut.entering a arc x ea ex h t in omega (arith, ints, l, f.low);
       }
 
   member_excess : (n : ℕ) → n < length s.graph.nodes → pos 0 ≤ℤ (weight_of (in_set set n) *ℤ excess s.graph.arcs s.flows n)
   member_excess n l = elim (cases_Bool (in_set set n)) [
-    | inl e ↦ rw (e, times_one (excess s.graph.arcs s.flows n)) (by_lt_z (excess s.graph.arcs s.flows n) (pos 0) (λ m. absurd (c.no_sink n l (omega (arith, ints, m)) (reached n l e))) (λ m. m))
+    | inl e ↦ rw (e, times_one (excess s.graph.arcs s.flows n)) (by_lt_z (excess s.graph.arcs s.flows n) (pos 0) (λ m. absurd (shut.no_sink n l e (omega (arith, ints, m)))) (λ m. m))
     | inr e ↦ rw (e, zero-*ℤ (excess s.graph.arcs s.flows n)) (omega (arith, ints))
   ]
 
   source_excess : pos 1 ≤ℤ (weight_of (in_set set source) *ℤ excess s.graph.arcs s.flows source)
-  source_excess = rw (member source c.there (reaches_self s (pos 1) source), times_one (excess s.graph.arcs s.flows source)) c.excess
+  source_excess = rw (source_inside (pos 1) s set source kept.network.arcs_fit c, times_one (excess s.graph.arcs s.flows source)) c.excess
 
   pub closed_off_contradicts : Contradicts s.graph.arcs set
   closed_off_contradicts =

@@ -1,5 +1,11 @@
 pub mod Cuts
+pub mod Debts
+pub mod Halved
+pub mod Passed
+pub mod Powers
 pub mod Reached
+pub mod Scaled
+pub mod Shut
 pub mod Sums
 pub mod Underway
 pub mod Unique

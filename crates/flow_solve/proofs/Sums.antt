@@ -1,22 +1,36 @@
 -- The surplus after a step along a path, and what the excesses of all nodes sum to.
-use Rattle.std.proofs.Common.{◌≡◌, ◌≢◌, ℕ, zero, suc, ◌<◌, ◌≤◌, List, [], ◌∷◌, All, ◌⊎◌, inl, inr, refl, sym, subst, ◌∙◌, arith, ℤ, pos, ◌+ℤ◌, ◌-ℤ◌, ◌*ℤ◌, neg_ℤ, ◌≤ℤ◌, ◌<ℤ◌}
+use Rattle.std.proofs.Common.{◌≡◌, ◌≢◌, ℕ, zero, suc, ◌*◌, ◌^◌, length, ◌<◌, ◌≤◌, List, [], ◌∷◌, All, ◌⊎◌, inl, inr, refl, sym, subst, ◌∙◌, arith, ℤ, pos, ◌+ℤ◌, ◌-ℤ◌, ◌*ℤ◌, neg_ℤ, ◌≤ℤ◌, ◌<ℤ◌}
 use Rattle.std.specs.Int.{int_max}
+use Rattle.std.specs.List.{AllByRecursion, AllZip}
 use Rattle.std.proofs.Math.IntN.{*ℤ_comm, zero-*ℤ}
 use Rattle.std.proofs.lemmas.Int.{ints, clamps}
 use Rattle.std.proofs.lemmas.Bool.{cases_eq}
 use Rattle.std.proofs.lemmas.List.Elements.{recursion_from_All}
+use Rattle.flow_cost.specs.Cost.{IsWithin}
 use Rattle.flow_cost.specs.Integers.{mul-one}
 use Rattle.flow_graph.specs.declared.arcs.Arc.{Arc}
-use Rattle.flow_graph.specs.Circulation.{excess}
+use Rattle.flow_graph.specs.Circulation.{IsFlow, excess}
 use Rattle.flow_graph.specs.Network.{IsArcAmong}
 use Rattle.flow_check.proofs.Sums.{sum_below, carried, carried-is}
 use Rattle.flow_residual.specs.Flows.{only_at}
+use Rattle.flow_residual.proofs.Changes.{excess_small}
 use Rattle.flow_residual.proofs.Excesses.{if_same, if_other}
 use Rattle.flow_solve.specs.Bounds.{surplus_below}
 
 pub surplus_low : (arcs : List Arc) (xs : List ℤ) (n : ℕ) → pos 0 ≤ℤ surplus_below arcs xs n
 surplus_low arcs xs zero = omega (arith, ints)
 surplus_low arcs xs (suc n) = let h = surplus_low arcs xs n in omega (arith, ints, clamps, h)
+
+top_small : (e : ℤ) (n : ℕ) → n ≤ 524_288 → IsWithin (pos (n * 2 ^ 61)) e → int_max (pos 0) e ≤ℤ pos (2 ^ 80)
+top_small e n l w = omega (arith, ints, clamps, l, w.high)
+
+-- the surplus fits 128 bits
+pub surplus_small : (nodes : ℕ) (arcs : List Arc) (xs : List ℤ) → AllByRecursion (IsArcAmong nodes) arcs → AllZip IsFlow arcs xs → length arcs ≤ 524_288 → (n : ℕ) → surplus_below arcs xs n ≤ℤ pos (n * 2 ^ 80)
+surplus_small nodes arcs xs fit z l zero = omega (arith, ints)
+surplus_small nodes arcs xs fit z l (suc n) =
+    let h = surplus_small nodes arcs xs fit z l n in
+    let k = top_small (excess arcs xs n) (length arcs) l (excess_small nodes arcs xs n fit z) in
+    omega (arith, ints, h, k)
 
 top_falls : (e f s z step : ℤ) → pos 1 ≤ℤ step → step ≤ℤ e → s ≡ step → z ≡ pos 0 → f ≡ (e -ℤ s) +ℤ z → int_max (pos 0) f +ℤ step ≡ int_max (pos 0) e
 top_falls e f s z step low l p q h = omega (arith, ints, clamps, low, l, p, q, h)

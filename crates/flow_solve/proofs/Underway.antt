@@ -16,6 +16,8 @@ use Rattle.flow_residual.proofs.Kept.{same_length_read}
 use Rattle.flow_residual.proofs.Augmented.{flows_near, length_after, path_excess}
 use Rattle.flow_solve.specs.Bounds.{surplus_below, StaysWithin, surplus, FewTicks, NearSettled}
 use Rattle.flow_solve.specs.Progress.{Augments, Stays, IsUnderway, IsClosedOff}
+use Rattle.flow_solve.specs.Scales.{IsShut}
+use Rattle.flow_solve.proofs.Shut.{shut_after, shut_priced}
 use Rattle.flow_solve.proofs.Sums.{surplus_low, surplus_falls, source_falls, still_spent, all_balanced}
 use Rattle.flow_solve.proofs.Unique.{settles_alone}
 
@@ -51,10 +53,18 @@ near_more xs ys zs d e f counted sum h k a x z hx hz =
 near_wider : (xs ys : List ℤ) (d e : ℤ) → d ≤ℤ e → StaysWithin d xs ys → StaysWithin e xs ys
 near_wider xs ys d e l h a x y hx hy = let p = h a x y hx hy in omega (arith, ints, p, l)
 
-module _ {N A C : Type 0} (value : C → ℤ → ℤ) (step : ℤ) where
+module _ {N A C : Type 0} where
   abbrev changed : Flow N A C → List ℤ → List ℤ → Flow N A C
   changed s flows potentials = record s { flows = flows; potentials = potentials }
 
+  -- nothing but flows and potentials changed, twice
+  pub rest_on : (a b c : Flow N A C) → b ≡ record a { flows = b.flows; potentials = b.potentials } → c ≡ record b { flows = c.flows; potentials = c.potentials } → c ≡ record a { flows = c.flows; potentials = c.potentials }
+  rest_on a b c p q = q ∙ ap (λ (z : Flow N A C). changed z c.flows c.potentials) p
+
+  pub rest_flows : (a b : Flow N A C) → b ≡ record a { flows = b.flows } → b ≡ record a { flows = b.flows; potentials = b.potentials }
+  rest_flows a b p = subst (λ z. b ≡ record a { flows = b.flows; potentials = z }) (sym (ap (λ (z : Flow N A C). z.potentials) p)) p
+
+module _ {N A C : Type 0} (value : C → ℤ → ℤ) (step : ℤ) where
   pub underway_none : (s : Flow N A C) (t : ℕ) → MeetsAll value step s → IsUnderway value step s s t t
   underway_none s t m = record {
     rest = refl;
@@ -64,6 +74,7 @@ module _ {N A C : Type 0} (value : C → ℤ → ℤ) (step : ℤ) where
     balance = refl;
     near = near_none s.flows (pos t *ℤ step -ℤ pos t *ℤ step) (omega (arith, ints));
     spent = λ n l h. h;
+    shut = λ set h. h;
   }
 
   pub underway_stays : (s now : Flow N A C) (t : ℕ) → Stays value step s now → IsUnderway value step s now t t
@@ -75,6 +86,7 @@ module _ {N A C : Type 0} (value : C → ℤ → ℤ) (step : ℤ) where
     balance = refl;
     near = near_none s.flows (pos t *ℤ step -ℤ pos t *ℤ step) (omega (arith, ints));
     spent = λ n l k. k;
+    shut = λ set k. shut_priced step s now.potentials set k;
   }) h.condition
 
   -- one step
@@ -91,6 +103,7 @@ module _ {N A C : Type 0} (value : C → ℤ → ℤ) (step : ℤ) where
           balance = omega (arith, ints, m, f);
           near = near_wider s.flows flows step _ (omega (arith, ints, m)) h.near;
           spent = still_spent s.graph.arcs s.flows flows (length s.graph.nodes) source h.last step low there enough h.sink h.excess;
+          shut = h.shut;
         }
 
     pub underway_step : (now : Flow N A C) → Augments value step s now source → IsUnderway value step s now t (t + 1)
@@ -111,9 +124,6 @@ module _ {N A C : Type 0} (value : C → ℤ → ℤ) (step : ℤ) where
   pub same_nodes : (s now : Flow N A C) (t u : ℕ) → IsUnderway value step s now t u → length now.graph.nodes ≡ length s.graph.nodes
   same_nodes s now t u h = ap (λ (z : Flow N A C). length z.graph.nodes) h.rest
 
-  rest_on : (a b c : Flow N A C) → b ≡ changed a b.flows b.potentials → c ≡ changed b c.flows c.potentials → c ≡ changed a c.flows c.potentials
-  rest_on a b c p q = q ∙ ap (λ (z : Flow N A C). changed z c.flows c.potentials) p
-
   pub underway_on : (a b c : Flow N A C) (t u v : ℕ) → IsUnderway value step a b t u → IsUnderway value step b c u v → IsUnderway value step a c t v
   underway_on a b c t u v h k = record {
     rest = rest_on a b c h.rest k.rest;
@@ -123,6 +133,7 @@ module _ {N A C : Type 0} (value : C → ℤ → ℤ) (step : ℤ) where
     balance = let p = h.balance in let q = k.balance in omega (arith, ints, p, q);
     near = near_more a.flows b.flows c.flows (pos u *ℤ step -ℤ pos t *ℤ step) (pos v *ℤ step -ℤ pos u *ℤ step) (pos v *ℤ step -ℤ pos t *ℤ step) h.counted (omega (arith, ints)) h.near k.near;
     spent = λ n l m. k.spent n (let e = same_nodes a b t u h in omega (arith, e, l)) (h.spent n l m);
+    shut = λ set m. k.shut set (h.shut set m);
   }
 
   -- ---- what the calls did together
@@ -158,6 +169,8 @@ augments_from {N = N} {A = A} {C = C} node_eq arc_eq span value step s near foun
       near = λ a x y hx hy. within_abs step (y -ℤ x)
           (flows_near node_eq arc_eq span step found room ms kept' low h a x y (subst (λ z. slice_get z a ≡ Some x) (sym flows_are) hx) (subst (λ z. slice_get z a ≡ Some y) now_flows hy));
       condition = m;
+      shut = λ set k. subst (λ z. IsShut step z set) (sym r)
+          (shut_after node_eq arc_eq span step found set room.source.0 room.last.0 ms kept' h.path there sink (subst (λ z. IsShut step z set) (sym same) (shut_priced step s found.potentials set k)));
     }
   where
     now_is : {N A C : Type 0} (s found now : Flow N A C) (xs : List ℤ) → found ≡ record s { potentials = found.potentials } → now ≡ record found { flows = xs } → now ≡ record s { flows = now.flows; potentials = now.potentials }
@@ -176,36 +189,47 @@ closed_from {N = N} {A = A} {C = C} step s near found source set p q there enoug
     subst (λ z. IsClosedOff step z source set) (sym q) (record { there = omega (arith, nodes_are, there); excess = omega (arith, ints, excess_is, enough); members = members; no_sink = no_sink })
 
 -- ---- at the end
+-- where no excess is left, the flows are least
+pub least_from : {N A C : Type 0} (node_eq : N → N → Bool) (arc_eq : A → A → Bool) (span : C → ℤ) (value : C → ℤ → ℤ) (start now : Flow N A C) (t u : ℕ) → IsUnderway value (pos 1) start now t u → IsFlowOf node_eq arc_eq span now →
+    ((n : ℕ) → n < length now.graph.nodes → excess_of now n <ℤ pos 1) → ShowsLeast value (length now.graph.nodes) now.graph.arcs now.costs now.flows now.potentials
+least_from node_eq arc_eq span value start now t u h k spent = record { circulation = record { bounded = k.bounded; balanced = all_balanced (length now.graph.nodes) now.graph.arcs now.flows k.network.arcs_fit spent }; condition = h.condition }
+
+-- a state that was left alone
+pub underway_from : {N A C : Type 0} (value : C → ℤ → ℤ) (settled middle now : Flow N A C) (before between after : ℕ) → (surplus settled settled.flows ≤ℤ pos 4_096 → (middle ≡ settled) × (between ≡ before)) → IsUnderway value (pos 1) middle now between after →
+    surplus settled settled.flows ≤ℤ pos 4_096 → IsUnderway value (pos 1) settled now before after
+underway_from value settled middle now before between after stays u few =
+    let e = stays few in
+    subst (λ t. IsUnderway value (pos 1) settled now t after) e.1 (subst (λ z. IsUnderway value (pos 1) z now between after) e.0 u)
+
 module _ {N A C : Type 0} (node_eq : N → N → Bool) (arc_eq : A → A → Bool) (span : C → ℤ) (value : C → ℤ → ℤ) (law : (c : C) → IsLawful (value c) (span c)) (old settled now : Flow N A C) (before after : ℕ)
-    (kept_old : IsFlowOf node_eq arc_eq span old) (settles : SettlesTo value (pos 1) old settled.flows) (settled_is : settled ≡ record old { flows = settled.flows }) (u : IsUnderway value (pos 1) settled now before after) where
-  surplus_is : (xs : List ℤ) → SettlesTo value (pos 1) old xs → surplus settled settled.flows ≡ surplus old xs
+    (kept_old : IsFlowOf node_eq arc_eq span old) (settles : SettlesTo value (pos 1) old settled.flows) (settled_is : settled ≡ record old { flows = settled.flows }) where
+  pub surplus_is : (xs : List ℤ) → SettlesTo value (pos 1) old xs → surplus settled settled.flows ≡ surplus old xs
   surplus_is xs h =
       let e = settles_alone node_eq arc_eq value span old settled.flows xs law kept_old settles h in
       let g : settled.graph ≡ old.graph = ap (λ (z : Flow N A C). z.graph) settled_is in
       ap (λ z. surplus_below z.arcs settled.flows (length z.nodes)) g ∙ ap (λ z. surplus_below old.graph.arcs z (length old.graph.nodes)) e
 
-  spent_is : pos (after - before) ≤ℤ surplus settled settled.flows
-  spent_is =
+  spent_is : IsUnderway value (pos 1) settled now before after → pos (after - before) ≤ℤ surplus settled settled.flows
+  spent_is u =
       let b = u.balance in
       let p = mul-one (pos after) in
       let q = mul-one (pos before) in
       let l = surplus_low now.graph.arcs now.flows (length now.graph.nodes) in
       omega (arith, ints, b, p, q, l, u.counts_up)
 
-  pub few_from : FewTicks value old (after - before)
-  few_from xs h few = subst (λ z. pos (after - before) ≤ℤ z) (surplus_is xs h) spent_is
+  module _ (few_steps : surplus settled settled.flows ≤ℤ pos 4_096 → IsUnderway value (pos 1) settled now before after) where
+    few_at : (xs : List ℤ) → SettlesTo value (pos 1) old xs → surplus old xs ≤ℤ pos 4_096 → IsUnderway value (pos 1) settled now before after
+    few_at xs h few = few_steps (let k = surplus_is xs h in omega (arith, ints, k, few))
 
-  pub near_from : NearSettled value old now.flows
-  near_from xs h few =
-      let e = settles_alone node_eq arc_eq value span old settled.flows xs law kept_old settles h in
-      let p = mul-one (pos after) in
-      let q = mul-one (pos before) in
-      let s = spent_is in
-      subst (λ z. StaysWithin (surplus old xs) z now.flows) e
-      (near_wider settled.flows now.flows (pos after *ℤ pos 1 -ℤ pos before *ℤ pos 1) (surplus old xs) (let k = surplus_is xs h in omega (arith, ints, p, q, s, k, u.counts_up)) u.near)
+    pub few_from : FewTicks value old (after - before)
+    few_from xs h few = subst (λ z. pos (after - before) ≤ℤ z) (surplus_is xs h) (spent_is (few_at xs h few))
 
-  pub least_from : IsFlowOf node_eq arc_eq span now → ((n : ℕ) → n < length now.graph.nodes → excess_of now n <ℤ pos 1) → ShowsLeast value (length now.graph.nodes) now.graph.arcs now.costs now.flows now.potentials
-  least_from k h = record { circulation = record { bounded = k.bounded; balanced = all_balanced (length now.graph.nodes) now.graph.arcs now.flows k.network.arcs_fit h }; condition = u.condition }
-
-  pub rest_from : now ≡ record old { flows = now.flows; potentials = now.potentials }
-  rest_from = rest_on value (pos 1) old settled now (subst (λ z. settled ≡ record old { flows = settled.flows; potentials = z }) (sym (ap (λ (z : Flow N A C). z.potentials) settled_is)) settled_is) u.rest
+    pub near_from : NearSettled value old now.flows
+    near_from xs h few =
+        let u = few_at xs h few in
+        let e = settles_alone node_eq arc_eq value span old settled.flows xs law kept_old settles h in
+        let p = mul-one (pos after) in
+        let q = mul-one (pos before) in
+        let s = spent_is u in
+        subst (λ z. StaysWithin (surplus old xs) z now.flows) e
+        (near_wider settled.flows now.flows (pos after *ℤ pos 1 -ℤ pos before *ℤ pos 1) (surplus old xs) (let k = surplus_is xs h in omega (arith, ints, p, q, s, k, u.counts_up)) u.near)

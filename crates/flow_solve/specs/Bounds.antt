@@ -1,5 +1,5 @@
 -- How often a solver may augment, and how far a flow may go.
-use Rattle.std.specs.Prelude.{◌≡◌, ℕ, zero, suc, List, ℤ, pos, ◌+ℤ◌, ◌-ℤ◌, ◌≤ℤ◌, length, slice_get, unsigned_abs, Some}
+use Rattle.std.specs.Prelude.{◌≡◌, ℕ, zero, suc, ◌+◌, ◌*◌, ◌^◌, ◌≤◌, List, ℤ, pos, ◌+ℤ◌, ◌-ℤ◌, ◌≤ℤ◌, ◌<ℤ◌, length, slice_get, unsigned_abs, Some}
 use Rattle.std.specs.Int.{int_max}
 use Rattle.flow_graph.specs.declared.arcs.Arc.{Arc}
 use Rattle.flow_graph.specs.Circulation.{excess}
@@ -31,3 +31,16 @@ module _ {N A C : Type 0} where
   NearSettled value old flows =
       (settled : List ℤ) → SettlesTo value (pos 1) old settled → surplus old settled ≤ℤ pos 4_096 →
       StaysWithin (surplus old settled) settled flows
+
+  -- how many nodes and arcs there are
+  abbrev pub size_of : Flow N A C → ℕ
+  size_of s = length s.graph.nodes + length s.graph.arcs
+
+  -- the surplus that settling at step 1 would leave on the state at entry is above 4,096, and a power of two up to 2^40
+  -- for each node and arc is at least as much: then the ticks are at most 16 for each node, each arc and each power from 0
+  -- up to that one. The least such power gives the least bound
+  abbrev pub ScaledTicks : (C → ℤ → ℤ) → Flow N A C → ℕ → Type 0
+  ScaledTicks value old ticks =
+      (settled : List ℤ) → SettlesTo value (pos 1) old settled → pos 4_096 <ℤ surplus old settled →
+      (k : ℕ) → k ≤ 40 → surplus old settled ≤ℤ pos (size_of old * 2 ^ k) →
+      ticks ≤ 16 * size_of old * (k + 1)

@@ -3,6 +3,7 @@ use Rattle.std.specs.Prelude.{◌≡◌, ◌↔◌, ℕ, ◌<◌, ◌≤◌, Boo
 use Rattle.flow_residual.specs.Flows.{Flow, MeetsAll, excess_of, only_at}
 use Rattle.flow_residual.specs.Path.{IsSink, Reaches}
 use Rattle.flow_solve.specs.Bounds.{StaysWithin, surplus}
+use Rattle.flow_solve.specs.Scales.{IsShut}
 
 module _ {N A C : Type 0} (value : C → ℤ → ℤ) (step : ℤ) where
   -- the step goes from the source to a node that lacked it
@@ -15,13 +16,15 @@ module _ {N A C : Type 0} (value : C → ℤ → ℤ) (step : ℤ) where
     pub excess : (n : ℕ) → n < length old.graph.nodes → excess_of new n ≡ (excess_of old n -ℤ only_at source step n) +ℤ only_at last step n
     pub near : StaysWithin step old.flows new.flows
     pub condition : MeetsAll value step new
+    pub shut : (set : ℕ → Bool) → IsShut step old set → IsShut step new set
 
   -- no step can go from the source, and the potentials alone have changed
   pub record Stays (old new : Flow N A C) : Type 0 where
     pub rest : new ≡ record old { potentials = new.potentials }
     pub condition : MeetsAll value step new
 
-  -- between two counts of ticks: each tick took the step off the surplus, and moved each flow by the step at most
+  -- between two counts of ticks: each tick took the step off the surplus, and moved each flow by the step at most. No step
+  -- went into a set that was shut
   pub record IsUnderway (start now : Flow N A C) (before after : ℕ) : Type 0 where
     pub rest : now ≡ record start { flows = now.flows; potentials = now.potentials }
     pub counted : length now.flows ≡ length start.flows
@@ -30,6 +33,7 @@ module _ {N A C : Type 0} (value : C → ℤ → ℤ) (step : ℤ) where
     pub balance : pos after *ℤ step +ℤ surplus now now.flows ≡ pos before *ℤ step +ℤ surplus start start.flows
     pub near : StaysWithin (pos after *ℤ step -ℤ pos before *ℤ step) start.flows now.flows
     pub spent : (n : ℕ) → n < length start.graph.nodes → excess_of start n <ℤ step → excess_of now n <ℤ step
+    pub shut : (set : ℕ → Bool) → IsShut step start set → IsShut step now set
 
 -- the set has the nodes that a node with an excess of the step reaches, and none of them lacks the step
 pub record IsClosedOff {N A C : Type 0} (step : ℤ) (s : Flow N A C) (source : ℕ) (set : List Bool) : Type 0 where

@@ -44,7 +44,7 @@ fn advance<N: Name, A: Name, C: Cost, L: Ledger>(
 }
 
 /// Moves the step from a node until its excess is below it; false where some of it cannot be moved.
-fn drain<N: Name, A: Name, C: Cost, L: Ledger>(
+pub(crate) fn drain<N: Name, A: Name, C: Cost, L: Ledger>(
     s: &mut State<N, A, C>,
     room: &mut Room,
     steps: &mut Steps<L>,

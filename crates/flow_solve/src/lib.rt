@@ -3,6 +3,7 @@
 
 mod advancing;
 mod nearing;
+mod scaling;
 mod solving;
 
 pub use solving::{Outcome, solve};

@@ -3,9 +3,10 @@ ghost use Rattle.flow_graph.specs.Circulation.{IsCirculation};
 ghost use Rattle.flow_graph.specs.Condition.{ShowsLeast};
 ghost use Rattle.flow_graph.specs.Contradiction.{Contradicts};
 ghost use Rattle.flow_residual.specs.Rooms.{IsRoomFor};
-ghost use Rattle.flow_solve.specs.Bounds.{FewTicks, NearSettled};
+ghost use Rattle.flow_solve.specs.Bounds.{FewTicks, NearSettled, ScaledTicks};
 
 use crate::advancing::drain_all;
+use crate::scaling::approach;
 use flow_cost::Cost;
 use flow_graph::Name;
 use flow_residual::{Room, State, Steps};
@@ -37,11 +38,13 @@ pub fn solve<N: Name, A: Name, C: Cost, L: Ledger>(
     // Each augmentation ticks once.
     ensures few_ticks { FewTicks C.value_at s.old (steps.new - steps.old) }
     ensures near_settled { result ≡ Outcome.Least → NearSettled C.value_at s.old s.new.flows }
+    ensures scaled_ticks { ScaledTicks C.value_at s.old (steps.new - steps.old) }
     ensures counts_up { steps.old ≤ steps.new }
 {
     // What every state keeps is needed of the first state and of the last.
     s.graph();
     s.settle_all(1);
+    approach(s, room, steps);
     let done = drain_all(s, room, steps, 1);
     s.graph();
     if done { Outcome::Least } else { Outcome::Cut }
