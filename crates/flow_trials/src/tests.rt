@@ -54,8 +54,8 @@ fn graph_of(rt: &impl Abort, alloc: Global, nodes: u32, links: &[Link]) -> Graph
     }
     for (a, link) in links.iter().enumerate() {
         assert!(rt; a < 1000);
-        assert!(rt; link.lo >= -1000);
-        assert!(rt; link.hi <= 1000);
+        assert!(rt; link.lo >= -1_000_000_000_000);
+        assert!(rt; link.hi <= 1_000_000_000_000);
         assert!(rt;
             graph
                 .add_arc(a as u32, link.from, link.to, link.lo, link.hi)
@@ -74,11 +74,11 @@ fn costs_of(alloc: Global, links: &[Link]) -> Result<Vec<Square>, Fail> {
 }
 
 // What a number costs on an arc.
-fn cost_at(rt: &impl Abort, link: &Link, x: i64) -> u64 {
-    let distance = x.abs_diff(link.target);
-    assert!(rt; distance < 1_000_000);
+fn cost_at(rt: &impl Abort, link: &Link, x: i64) -> u128 {
+    let distance = u128::from(x.abs_diff(link.target));
+    assert!(rt; distance < 4_000_000_000_000);
     assert!(rt; link.weight < 10_000);
-    distance * distance * u64::from(link.weight)
+    distance * distance * u128::from(link.weight)
 }
 
 // The cost of the flows that the solver leaves from this start, or none after a cut.
@@ -89,7 +89,7 @@ fn solved<L: Ledger>(
     links: &[Link],
     start: i128,
     blank: Blank,
-) -> Result<Option<u64>, Fail>
+) -> Result<Option<u128>, Fail>
     requires name { blank.name ≡ L.name }
     requires parts { blank.parts ≡ L.parts }
     requires some { 0 < L.parts }
@@ -109,7 +109,7 @@ fn solved<L: Ledger>(
     if solve(&mut state, &mut room, &mut steps) == Outcome::Cut {
         return Ok(None);
     }
-    let mut sum: u64 = 0;
+    let mut sum: u128 = 0;
     for (a, link) in links.iter().enumerate() {
         assert!(rt; a < state.graph().arc_count() as usize);
         let cost = cost_at(rt, link, state.flow(ArcId(a as u32)));
@@ -124,14 +124,36 @@ fn trial(
     nodes: u32,
     links: &[Link],
     start: i128,
-) -> Result<Option<u64>, Fail> {
+) -> Result<Option<u128>, Fail> {
     solved::<Brand>(rt, alloc, nodes, links, start, Blank::new(1))
+}
+
+// Tests what the solver finds for each network, from three starts.
+fn assert_costs(
+    rt: &impl Abort,
+    alloc: Global,
+    networks: &[(u32, &[Link], Option<u128>)],
+) -> Result<(), Fail> {
+    for (nodes, links, want) in networks {
+        for start in [
+            0,
+            1_000_000_000_000_000_000_000_000,
+            -1_000_000_000_000_000_000_000_000,
+        ] {
+            assert_eq!(rt;
+                trial(rt, alloc, *nodes, links, start)?,
+                *want,
+                "{nodes} nodes from {start}"
+            );
+        }
+    }
+    Ok(())
 }
 
 // The expected costs were found by going through all circulations.
 #[test]
 fn small_networks(rt: HostRuntime) -> Result<(), Fail> {
-    let networks: [(u32, &[Link], Option<u64>); 14] = [
+    let networks: [(u32, &[Link], Option<u128>); 14] = [
         (2, &[arc(0, 1, 0, 10, 7, 1), arc(1, 0, 0, 5, 5, 1)], Some(4)),
         (2, &[arc(0, 1, 0, 5, 7, 1), arc(1, 0, 6, 8, 5, 1)], None),
         (
@@ -248,20 +270,119 @@ fn small_networks(rt: HostRuntime) -> Result<(), Fail> {
             Some(142),
         ),
     ];
-    for (nodes, links, want) in networks {
-        for start in [
-            0,
-            1_000_000_000_000_000_000_000_000,
-            -1_000_000_000_000_000_000_000_000,
-        ] {
-            assert_eq!(rt;
-                trial(&rt, rt.alloc(), nodes, links, start)?,
-                want,
-                "{nodes} nodes from {start}"
-            );
-        }
-    }
-    Ok(())
+    assert_costs(&rt, rt.alloc(), &networks)
+}
+
+// The expected costs were found by a search over the flows of the arcs outside a spanning tree, one after another: the least
+// over the later ones is convex in each. The excesses here are large: most are far above 4,096.
+#[test]
+fn large_networks(rt: HostRuntime) -> Result<(), Fail> {
+    const FAR: i64 = 1_000_000_000_000;
+    let networks: [(u32, &[Link], Option<u128>); 10] = [
+        (
+            2,
+            &[arc(0, 1, 0, FAR, FAR, 1), arc(1, 0, 0, FAR, 0, 4)],
+            Some(800_000_000_000_000_000_000_000),
+        ),
+        (
+            2,
+            &[
+                arc(0, 1, 0, FAR, FAR, 1),
+                arc(1, 0, -FAR, 499_999_999_999, -FAR, 3),
+                arc(1, 0, 0, FAR, 123_456_789, 2),
+            ],
+            Some(2_199_703_721_996_294_500_228_626),
+        ),
+        (
+            3,
+            &[
+                arc(0, 1, 0, FAR, FAR, 1),
+                arc(1, 2, 0, 5_000_000_000, 3_000_000_000, 7),
+                arc(2, 0, -FAR, FAR, -FAR, 2),
+                arc(1, 0, 0, FAR, 999_999, 1),
+            ],
+            Some(2_500_062_000_001_499_999_000_001),
+        ),
+        // Two nodes with an excess, and one way out: just wide enough, and one unit too narrow.
+        (
+            3,
+            &[
+                arc(0, 1, 5_000_000_000, 5_000_000_000, 0, 1),
+                arc(0, 2, 7_000_000_000, 7_000_000_000, 0, 1),
+                arc(1, 2, -FAR, FAR, 0, 1),
+                arc(2, 0, 0, 12_000_000_000, 0, 1),
+            ],
+            Some(243_000_000_000_000_000_000),
+        ),
+        (
+            3,
+            &[
+                arc(0, 1, 5_000_000_000, 5_000_000_000, 0, 1),
+                arc(0, 2, 7_000_000_000, 7_000_000_000, 0, 1),
+                arc(1, 2, -FAR, FAR, 0, 1),
+                arc(2, 0, 0, 11_999_999_999, 0, 1),
+            ],
+            None,
+        ),
+        // No arc has room for the first step of 1,024.
+        (
+            2,
+            &[
+                arc(0, 1, 5000, 5000, 0, 1),
+                arc(1, 0, 0, 1000, 0, 1),
+                arc(1, 0, 0, 1000, 0, 1),
+                arc(1, 0, 0, 1000, 0, 1),
+                arc(1, 0, 0, 1000, 0, 1),
+                arc(1, 0, 0, 1000, 0, 1),
+            ],
+            Some(30_000_000),
+        ),
+        (
+            2,
+            &[
+                arc(0, 1, 5000, 5000, 0, 1),
+                arc(1, 0, 0, 999, 0, 1),
+                arc(1, 0, 0, 999, 0, 1),
+                arc(1, 0, 0, 999, 0, 1),
+                arc(1, 0, 0, 999, 0, 1),
+                arc(1, 0, 0, 999, 0, 1),
+            ],
+            None,
+        ),
+        (
+            4,
+            &[
+                arc(0, 1, 3_000_000_000, 3_000_000_000, 0, 1),
+                arc(0, 2, 3_000_000_000, 3_000_000_000, 0, 1),
+                arc(1, 2, -FAR, FAR, 5, 1),
+                arc(2, 3, 0, 8_000_000_000, 0, 3),
+                arc(3, 0, 0, 6_000_000_000, FAR, 1),
+            ],
+            Some(988_170_999_999_970_000_000_025),
+        ),
+        (
+            4,
+            &[
+                arc(0, 1, 3_000_000_000, 3_000_000_000, 0, 1),
+                arc(0, 2, 3_000_000_000, 3_000_000_000, 0, 1),
+                arc(1, 2, -FAR, FAR, 5, 1),
+                arc(2, 3, 0, 8_000_000_000, 0, 3),
+                arc(3, 0, 0, 5_999_999_993, FAR, 1),
+            ],
+            None,
+        ),
+        (
+            3,
+            &[
+                arc(0, 1, -FAR, FAR, 999_999_999_999, 9999),
+                arc(1, 2, -FAR, FAR, 999_999_999_997, 1),
+                arc(2, 0, -FAR, FAR, -999_999_999_999, 2),
+                arc(0, 2, -FAR, FAR, 0, 3),
+            ],
+            Some(4_799_424_069_102_106_787_187_622),
+        ),
+    ];
+    assert_costs(&rt, rt.alloc(), &networks)
 }
 
 #[test]
