@@ -1,4 +1,4 @@
-use Rattle.std.proofs.Common.{◌≡◌, ℕ, ◌<◌, ◌*◌, ◌^◌, pos, Some, slice_get}
+use Rattle.std.proofs.Common.{◌≡◌, ℕ, ◌<◌, ◌^◌, pos, Some, slice_get}
 use Rattle.flow_cost.specs.Cost.{IsWithin}
 use Rattle.flow_graph.specs.declared.arcs.Arc.{Arc}
 use Rattle.flow_trials.proofs.tests.assert_spans.Given as goal

@@ -1,5 +1,5 @@
 -- What `State::new` requires: one cost for each arc, and bounds within the span of a square.
-use Rattle.std.proofs.Common.{◌≡◌, ◌<◌, ◌*◌, ◌^◌, ◌∙◌, pos, ℕ, List, Option, Some, length, get_or, slice_get, arith, rules, inl, inr, subst, sym}
+use Rattle.std.proofs.Common.{◌≡◌, ◌^◌, ◌∙◌, pos, ℕ, List, Some, slice_get, rules, inl, inr, subst}
 use Rattle.std.specs.Prelude.{All}
 use Rattle.std.proofs.lemmas.Option.{slice_get_cases}
 use Rattle.flow_cost.specs.Cost.{IsWithin}
