@@ -1,0 +1,9 @@
+use Rattle.sut_generate.specs.Generator.{industry_line}
+use Rattle.sut_generate.proofs.Lines.{numbered-none, numbered-more}
+use Rattle.sut_generate.proofs.classes.put_industries.Goals as goal
+
+pub loop-j-init : goal.loop-j-init
+loop-j-init c = numbered-none industry_line c.args.out.now.items
+
+pub loop-j-preserved : goal.loop-j-preserved
+loop-j-preserved c = numbered-more industry_line _ _ _ _ c.loop-j.invariant c.in_ok-put_line.ensures
