@@ -1,0 +1,5 @@
+pub mod Sizes
+pub mod SettingsRead
+pub mod Codes
+pub mod Ranges
+pub mod ClassesRead
