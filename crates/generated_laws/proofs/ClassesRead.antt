@@ -66,11 +66,11 @@ after-finals p n k = record (after-industries p n) { finals = map final_code (on
 abbrev after-item : ℕ → ℕ → ClassLists
 after-item p n = record (after-finals p n 3) { items = codes "V1" ∷ [] }
 
-products-codes : (xs : List ℕ) → map (λ (i : ProductClass). i.code) (map product_class xs) ≡ map product_code xs
+pub products-codes : (xs : List ℕ) → map (λ (i : ProductClass). i.code) (map product_class xs) ≡ map product_code xs
 products-codes [] = refl
 products-codes (x ∷ xs) = ap (λ l. product_code x ∷ l) (products-codes xs)
 
-industries-codes : (xs : List ℕ) → map (λ (j : IndustryClass). j.code) (map industry_class xs) ≡ map industry_code xs
+pub industries-codes : (xs : List ℕ) → map (λ (j : IndustryClass). j.code) (map industry_class xs) ≡ map industry_code xs
 industries-codes [] = refl
 industries-codes (x ∷ xs) = ap (λ l. industry_code x ∷ l) (industries-codes xs)
 
