@@ -1,7 +1,7 @@
 -- The made classes are read.
-use Rattle.std.proofs.Common.{◌≡◌, ◌<◌, ◌≤◌, ◌+◌, ◌++◌, ◌∷◌, ◌∙◌, ◌==◌, ◌||◌, ◌&&◌, ℕ, zero, suc, List, [], Bool, true, false, nat_lt, Option, Some, None, Ok, map, length, refl, sym, ap, arith, append_assoc, cond, if◌then◌else◌}
+use Rattle.std.proofs.Common.{◌≡◌, ◌<◌, ◌≤◌, ◌+◌, ◌++◌, ◌∷◌, ◌∙◌, ◌==◌, ◌||◌, ℕ, List, [], Bool, true, false, nat_lt, Option, Some, None, Ok, map, length, refl, sym, ap, arith, append_assoc, if◌then◌else◌}
 use Rattle.std.specs.Prelude.{codes, decimal, is_some, option_map}
-use Rattle.std.specs.List.{position, range_with_len}
+use Rattle.std.specs.List.{position}
 use Rattle.std.specs.Str.{bytes_eq}
 use Rattle.std.proofs.lemmas.Bool.{lt-ltb}
 use Rattle.std.proofs.lemmas.List.FromFn.{length-map-range_with_len, map-range_with_len_more}
@@ -15,7 +15,7 @@ use Rattle.sut_records.proofs.PlainText.{printed-file}
 use Rattle.sut_classes.specs.ClassFile.{axis_named, class_line, classes_of, group_read, is_code_of, is_taken, kind_read, limit_of, no_classes, with_code}
 use Rattle.sut_classes.specs.ClassLists.{ClassLists, ProductClass, IndustryClass}
 use Rattle.sut_classes.specs.Kept.{IsClasses}
-use Rattle.sut_classes.specs.Places.{count_of, place_of}
+use Rattle.sut_classes.specs.Places.{count_of}
 use Rattle.sut_classes.specs.declared.ids.MarginId.{MarginId}
 use Rattle.sut_classes.specs.declared.ids.Axis.{Axis}
 use Rattle.sut_classes.specs.declared.ids.Axis.TheVariants as axis
@@ -23,7 +23,7 @@ use Rattle.sut_classes.proofs.FileLemmas.{under-format}
 use Rattle.sut_classes.proofs.KeptLemmas.{IsClasses-added, IsClasses-none}
 use Rattle.sut_classes.proofs.LineLemmas.{line-allowed, line-good}
 use Rattle.sut_classes.proofs.PlainLines.{plain-code}
-use Rattle.sut_classes.proofs.PlaceLemmas.{place, position-is}
+use Rattle.sut_classes.proofs.PlaceLemmas.{position-is}
 use Rattle.sut_generate.specs.Generator.{class_header, class_lines, final_code, final_line, industry_code, industry_line, item_line, made_classes, margin_line, one_to, product_code, product_line, tax_line}
 use Rattle.generated_laws.specs.MadeLists.{industry_class, made_lists, product_class}
 use Rattle.generated_laws.proofs.Codes.{absent, numbered-apart, numbered-code}
@@ -73,7 +73,6 @@ products-codes (x ∷ xs) = ap (λ l. product_code x ∷ l) (products-codes xs)
 pub industries-codes : (xs : List ℕ) → map (λ (j : IndustryClass). j.code) (map industry_class xs) ≡ map industry_code xs
 industries-codes [] = refl
 industries-codes (x ∷ xs) = ap (λ l. industry_code x ∷ l) (industries-codes xs)
-
 
 -- ---- products
 

@@ -1,7 +1,7 @@
 -- Codes of a letter and a number: they are codes, and each number has its own.
-use Rattle.std.proofs.Common.{◌≡◌, ◌<◌, ◌≤◌, ◌+◌, ◌&&◌, ◌∷◌, ◌∙◌, ℕ, zero, suc, pos, List, [], true, false, not, Option, None, Ok, map, length, refl, sym, ap, arith}
-use Rattle.std.specs.Prelude.{nat_le, decimal, codes}
-use Rattle.std.specs.Char.{digit_value, is_ascii_alphanumeric}
+use Rattle.std.proofs.Common.{◌≡◌, ◌<◌, ◌≤◌, ◌+◌, ◌∷◌, ◌∙◌, ℕ, zero, suc, pos, List, [], true, false, None, Ok, map, length, refl, sym, ap, arith}
+use Rattle.std.specs.Prelude.{decimal}
+use Rattle.std.specs.Char.{digit_value}
 use Rattle.std.specs.List.{list_all, range_with_len}
 use Rattle.std.specs.Str.{bytes_eq}
 use Rattle.std.specs.Str.Parse.{AllDigits}
@@ -12,7 +12,7 @@ use Rattle.std.proofs.lemmas.Str.Parse.{digit_from_value}
 use Rattle.sut_text.specs.Fields.{numbered}
 use Rattle.sut_text.specs.Number.{whole_of}
 use Rattle.sut_text.proofs.Spelling.{whole-spelled}
-use Rattle.sut_classes.specs.ClassFile.{is_code, is_code_byte, is_code_of, is_margin}
+use Rattle.sut_classes.specs.ClassFile.{is_code_byte, is_code_of, is_margin}
 use Rattle.sut_classes.specs.declared.ids.Axis.{Axis}
 use Rattle.sut_classes.proofs.PlaceLemmas.{place}
 

@@ -6,3 +6,7 @@ pub mod ClassesRead
 pub mod MadeNames
 pub mod Ranks
 pub mod Zeros
+pub mod RowsRead
+pub mod Chain
+pub mod DrawnRead
+pub mod SourceRead

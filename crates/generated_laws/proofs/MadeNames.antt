@@ -1,5 +1,5 @@
 -- The measures that the rows of a made source name.
-use Rattle.std.proofs.Common.{◌≡◌, ◌<◌, ◌≤◌, ◌+◌, ◌-◌, ◌*◌, ◌%◌, ◌&&◌, ◌∷◌, ◌∙◌, ℕ, zero, suc, List, [], Bool, true, map, length, refl, sym, ap, ap₂, arith}
+use Rattle.std.proofs.Common.{◌≡◌, ◌<◌, ◌≤◌, ◌+◌, ◌-◌, ◌%◌, ◌&&◌, ◌∷◌, ◌∙◌, ℕ, zero, suc, List, [], Bool, true, map, length, refl, ap, ap₂, arith}
 use Rattle.std.specs.Prelude.{IsTrue, codes, nat_lt, slice_get, unwrap_or}
 use Rattle.std.specs.Fmt.{digits}
 use Rattle.std.proofs.lemmas.Bool.{lt-ltb}

@@ -1,5 +1,5 @@
 -- A table of zeros is admissible where 0 lies within the bounds of each row.
-use Rattle.std.proofs.Common.{◌≡◌, ◌+◌, ◌∷◌, ◌∙◌, ℕ, ℤ, pos, List, [], Bool, true, false, map, refl, sym, ap, subst}
+use Rattle.std.proofs.Common.{◌≡◌, ◌∷◌, ◌∙◌, pos, List, [], Bool, true, false, map, refl, sym, subst}
 use Rattle.std.specs.Prelude.{All, if◌then◌else◌, ◌≤ℤ◌, ◌*ℤ◌}
 use Rattle.std.proofs.lemmas.List.Elements.{All-weaker}
 use Rattle.std.proofs.Math.IntN.{*ℤ-zero}

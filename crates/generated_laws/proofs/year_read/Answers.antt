@@ -1,0 +1,6 @@
+use Rattle.generated_laws.proofs.Sizes.{size-is}
+use Rattle.generated_laws.proofs.SourceRead.{year-read}
+use Rattle.generated_laws.proofs.year_read.Goals as goal
+
+pub returns : goal.returns
+returns c = year-read c.args.seed c.args.products c.args.industries (size-is c.args.seed c.args.products c.args.industries c.requires)
