@@ -184,6 +184,7 @@ source-read seed p n size =
     let records : records_of (file_text source_header lines) ≡ source_header ∷ lines = printed-file source_header lines header-plain all.plain (no-mark lines) in
     record {
       problem = made;
+      classes = refl;
       read = sym (file-read made_facts lists (records_of (file_text source_header lines)) lines (Ok made) (right-header (records_of (file_text source_header lines)) source_header lines records refl)
           (sym (ap (problem_from lists) rows)));
       size = length-map got.after (λ (r : RowLine). r.row) ∙ got.good.size ∙ sum total ∙ count;

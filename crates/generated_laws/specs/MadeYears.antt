@@ -11,9 +11,10 @@ use Rattle.sut_tables.specs.Tables.{zeros}
 use Rattle.sut_generate.specs.Generator.{made_classes, made_settings, made_source}
 use Rattle.generated_laws.specs.MadeLists.{made_facts, made_lists}
 
--- the problem of a made source: p * (n + 7) + n rows, and a table of zeros is admissible
+-- the problem of a made source, over the made classes: p * (n + 7) + n rows, and a table of zeros is admissible
 pub record MadeProblem (seed p n : ℕ) : Type 0 where
   pub problem : ProblemFacts
+  pub classes : problem.classes ≡ made_lists p n
   pub read : source_of made_facts (made_lists p n) (made_source seed p n) ≡ Ok problem
   pub size : length problem.rows ≡ p * (n + 7) + n
   pub zeros : IsAdmissible problem (zeros problem)

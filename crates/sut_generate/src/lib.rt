@@ -3,7 +3,8 @@
 #![tactic(auto)]
 
 ghost use Rattle.std.specs.Prelude.{◌≡◌, ◌≤◌, ◌↔◌, IfOk, false};
-ghost use Rattle.sut_generate.specs.Generator.{is_size, made_settings, made_classes, made_source};
+ghost use Rattle.sut_generate.specs.Generator.{is_size};
+ghost use Rattle.sut_generate.specs.MadeFiles.{AreMade};
 
 mod classes;
 mod rows;
@@ -50,7 +51,7 @@ pub fn is_size(seed: u32, products: u32, industries: u32) -> bool
 fn make_files(alloc: Global, seed: u32, products: u32, industries: u32) -> Result<Files, NoMemory>
     requires products { (1 ≤ products) × (products ≤ 512) }
     requires industries { (1 ≤ industries) × (industries ≤ 256) }
-    ensures { IfOk result (λ f. (f.settings.items ≡ made_settings) × (f.classes.items ≡ made_classes products industries) × (f.source.items ≡ made_source seed products industries)) }
+    ensures { IfOk result (AreMade seed products industries) }
 {
     Ok(Files {
         settings: Vec::from_slice(alloc, b"scheme = \"flat\"\n")?,
@@ -67,7 +68,7 @@ pub fn generate(
     products: u32,
     industries: u32,
 ) -> Result<Files, GenerateFault>
-    ensures made { IfOk result (λ f. (f.settings.items ≡ made_settings) × (f.classes.items ≡ made_classes products industries) × (f.source.items ≡ made_source seed products industries)) }
+    ensures made { IfOk result (AreMade seed products industries) }
     ensures size { (result ≡ Err GenerateFault.BadSize) ↔ (is_size seed products industries ≡ false) }
 {
     if !is_size(seed, products, industries) {
