@@ -1,0 +1,4 @@
+pub mod Asked
+pub mod SeatLists
+pub mod ReviewLines
+pub mod Histories

@@ -1,0 +1,143 @@
+-- Lists of seats, place by place.
+use Rattle.std.proofs.Common.{◌≡◌, ◌∙◌, ℕ, zero, suc, ◌+◌, ◌<◌, ◌≤◌, List, [], ◌∷◌, ◌++◌, Bool, true, false, refl, sym, subst, ap, append_assoc, arith, get_or, length, map, set}
+use Rattle.std.proofs.lemmas.List.Elements.{All-cons, All-head, All-map, All-nil, All-tail}
+use borrow.Author.Tests.{lt-ltb}
+use Rattle.std.specs.Prelude.{All, Option, None, Some, if◌then◌else◌, is_some, nat_lt, not, position}
+use Rattle.std.specs.List.{position_or_len}
+use Rattle.sut_review.specs.Seats.{HasRoom, SeatFacts, dismissed_at, ended, stands_at}
+
+-- each seat of a list became what g gives of it
+pub each-seat : {A : Type 0} (f : A → SeatFacts) (g : SeatFacts → SeatFacts) (xs ys : List A) → length ys ≡ length xs → ((k : ℕ) (d : A) → k < length xs → f (get_or ys k d) ≡ g (f (get_or xs k d))) → map f ys ≡ map g (map f xs)
+each-seat f g [] [] e h = refl
+each-seat f g (x ∷ xs) [] e h = absurd (omega arith)
+each-seat f g [] (y ∷ ys) e h = absurd (omega arith)
+each-seat f g (x ∷ xs) (y ∷ ys) e h =
+    let first : f y ≡ g (f x) = h 0 x (omega arith) in
+    let rest : map f ys ≡ map g (map f xs) = each-seat f g xs ys (omega arith) (λ k d l. h (suc k) d (omega arith)) in
+    λ i. first i ∷ rest i
+
+changed : {A : Type 0} (f : A → SeatFacts) (xs : List A) (k : ℕ) (y d : A) → k < length xs → f y ≡ ended (f (get_or xs k d)) → map f (set xs k y) ≡ dismissed_at k (map f xs)
+changed f [] k y d l e = absurd (omega arith)
+changed f (x ∷ xs) zero y d l e = ap (λ s. s ∷ map f xs) e
+changed f (x ∷ xs) (suc k) y d l e = ap (λ rest. f x ∷ rest) (changed f xs k y d (omega arith) e)
+
+-- the seat that was at a place is changed to one that stands no more
+pub dismissed-set : {A : Type 0} (f : A → SeatFacts) (xs : List A) (k : ℕ) (y was : A) → k < length xs → was ≡ get_or xs k was → f y ≡ ended (f was) → map f (set xs k y) ≡ dismissed_at k (map f xs)
+dismissed-set f xs k y was l there e = changed f xs k y was l (e ∙ ap (λ s. ended (f s)) there)
+
+past : (seats : List SeatFacts) (k : ℕ) → length seats ≤ k → dismissed_at k seats ≡ seats
+past [] k l = refl
+past (seat ∷ seats) zero l = absurd (omega arith)
+past (seat ∷ seats) (suc k) l = ap (λ rest. seat ∷ rest) (past seats k (omega arith))
+
+none-past : (seats : List SeatFacts) (k : ℕ) → length seats ≤ k → stands_at k seats ≡ false
+none-past [] k l = refl
+none-past (seat ∷ seats) zero l = absurd (omega arith)
+none-past (seat ∷ seats) (suc k) l = none-past seats k (omega arith)
+
+same-length : {A : Type 0} (f : A → SeatFacts) (xs : List A) → length xs ≡ length (map f xs)
+same-length f [] = refl
+same-length f (x ∷ xs) = ap suc (same-length f xs)
+
+-- past the last seat nothing changes, and none stands
+pub dismissed-past : {A : Type 0} (f : A → SeatFacts) (k : ℕ) (xs : List A) → length xs ≤ k → dismissed_at k (map f xs) ≡ map f xs
+dismissed-past f k xs l = past (map f xs) k (subst (λ n. n ≤ k) (same-length f xs) l)
+
+pub stands-past : {A : Type 0} (f : A → SeatFacts) (k : ℕ) (xs : List A) → length xs ≤ k → stands_at k (map f xs) ≡ false
+stands-past f k xs l = none-past (map f xs) k (subst (λ n. n ≤ k) (same-length f xs) l)
+
+standing-at : {A : Type 0} (f : A → SeatFacts) (xs : List A) (k : ℕ) (d : A) → k < length xs → is_some (f (get_or xs k d)).standing ≡ stands_at k (map f xs)
+standing-at f [] k d l = absurd (omega arith)
+standing-at f (x ∷ xs) zero d l = refl
+standing-at f (x ∷ xs) (suc k) d l = standing-at f xs k d (omega arith)
+
+pub stands-there : {A : Type 0} (f : A → SeatFacts) (xs : List A) (k : ℕ) (was : A) (stood : Bool) → k < length xs → was ≡ get_or xs k was → stood ≡ is_some (f was).standing → stood ≡ stands_at k (map f xs)
+stands-there f xs k was stood l there e = e ∙ ap (λ s. is_some (f s).standing) there ∙ standing-at f xs k was l
+
+-- ---- room
+
+room-pushed : {A : Type 0} (f : A → SeatFacts) (n : ℕ) (xs : List A) (x : A) → ((k : ℕ) (d : A) → k < length xs → HasRoom n (f (get_or xs k d))) → HasRoom n (f x) → (k : ℕ) (d : A) → k < length (xs ++ x ∷ []) → HasRoom n (f (get_or (xs ++ x ∷ []) k d))
+room-pushed f n [] x all here zero d l = here
+room-pushed f n [] x all here (suc k) d l = absurd (omega arith)
+room-pushed f n (y ∷ xs) x all here zero d l = all 0 d (omega arith)
+room-pushed f n (y ∷ xs) x all here (suc k) d l = room-pushed f n xs x (λ j e m. all (suc j) e (omega arith)) here k d (omega arith)
+
+-- each seat of a list has room
+pub room-each : {A : Type 0} (f : A → SeatFacts) (n : ℕ) (xs : List A) → All (HasRoom n) (map f xs) → (k : ℕ) (d : A) → k < length xs → HasRoom n (f (get_or xs k d))
+room-each f n [] a k d l = absurd (omega arith)
+room-each f n (x ∷ xs) a zero d l = All-head (HasRoom n) (f x) (map f xs) a
+room-each f n (x ∷ xs) a (suc k) d l = room-each f n xs (All-tail (HasRoom n) (f x) (map f xs) a) k d (omega arith)
+
+pub room-all : {A : Type 0} (f : A → SeatFacts) (n : ℕ) (xs : List A) → ((k : ℕ) (d : A) → k < length xs → HasRoom n (f (get_or xs k d))) → All (HasRoom n) (map f xs)
+room-all f n xs all = All-map (HasRoom n) f xs all
+
+room-ended : (n : ℕ) (seat : SeatFacts) → HasRoom n seat → HasRoom n (ended seat)
+room-ended n seat room = record { seen = room.seen; tally = room.tally }
+
+pub room-dismissed : (n k : ℕ) (seats : List SeatFacts) → All (HasRoom n) seats → All (HasRoom n) (dismissed_at k seats)
+room-dismissed n k [] a = All-nil (HasRoom n)
+room-dismissed n zero (seat ∷ seats) a =
+    All-cons (HasRoom n) (ended seat) seats (room-ended n seat (All-head (HasRoom n) seat seats a)) (All-tail (HasRoom n) seat seats a)
+room-dismissed n (suc k) (seat ∷ seats) a =
+    All-cons (HasRoom n) seat (dismissed_at k seats) (All-head (HasRoom n) seat seats a) (room-dismissed n k seats (All-tail (HasRoom n) seat seats a))
+
+-- ---- the first that passes a test
+
+positions : {A : Type 0} (p : SeatFacts → Bool) (f : A → SeatFacts) (xs : List A) → position_or_len (λ x. p (f x)) xs ≡ position_or_len p (map f xs)
+positions p f [] = refl
+positions p f (x ∷ xs) = ap (λ n. if not (p (f x)) then 1 + n else 0) (positions p f xs)
+
+pub position-map : {A : Type 0} (p : SeatFacts → Bool) (f : A → SeatFacts) (xs : List A) (found : Option ℕ) → found ≡ position (λ x. p (f x)) xs → found ≡ position p (map f xs)
+position-map p f xs found e =
+    e ∙ (λ i. if nat_lt (positions p f xs i) (same-length f xs i) then Some (positions p f xs i) else None)
+
+stops-at : {A : Type 0} (q : A → Bool) (xs : List A) (k : ℕ) (d : A) → k < length xs → q (get_or xs k d) ≡ true → ((j : ℕ) → j < k → q (get_or xs j d) ≡ false) → position_or_len q xs ≡ k
+stops-at q [] k d l here before = absurd (omega arith)
+stops-at q (x ∷ xs) zero d l here before = ap (λ b. if not b then 1 + position_or_len q xs else 0) here
+stops-at q (x ∷ xs) (suc k) d l here before =
+    let first : q x ≡ false = before 0 (omega arith) in
+    let rest : position_or_len q xs ≡ k = stops-at q xs k d (omega arith) here (λ j m. before (suc j) (omega arith)) in
+    ap (λ b. if not b then 1 + position_or_len q xs else 0) first ∙ omega (arith, rest)
+
+runs-out : {A : Type 0} (q : A → Bool) (xs : List A) → ((k : ℕ) (d : A) → k < length xs → q (get_or xs k d) ≡ false) → position_or_len q xs ≡ length xs
+runs-out q [] none = refl
+runs-out q (x ∷ xs) none =
+    let first : q x ≡ false = none 0 x (omega arith) in
+    let rest : position_or_len q xs ≡ length xs = runs-out q xs (λ k d l. none (suc k) d (omega arith)) in
+    ap (λ b. if not b then 1 + position_or_len q xs else 0) first ∙ omega (arith, rest)
+
+past-end : (n : ℕ) (x : Option ℕ) → (if nat_lt n n then x else None) ≡ None
+past-end n x = grind arith
+
+-- the first seat that passes a test, where those before it don't
+pub first-passing : {A : Type 0} (p : SeatFacts → Bool) (f : A → SeatFacts) (given xs : List A) (k : ℕ) (was : A) (answer : Bool) → given ≡ xs → k < length given → was ≡ get_or given k was → answer ≡ p (f was) → answer ≡ true → ((j : ℕ) (d : A) → j < k → p (f (get_or xs j d)) ≡ false) → Some k ≡ position p (map f xs)
+first-passing p f given xs k was answer same l there is holds before =
+    let below : k < length xs = subst (λ (ys : List _). k < length ys) same l in
+    let here : p (f (get_or xs k was)) ≡ true = ap (λ s. p (f s)) (sym (there ∙ ap (λ ys. get_or ys k was) same)) ∙ sym is ∙ holds in
+    let at = stops-at (λ x. p (f x)) xs k was below here (λ j m. before j was m) in
+    position-map p f xs (Some k) (sym ((λ i. if nat_lt (at i) (length xs) then Some (at i) else None) ∙ ap (λ b. if b then Some k else None) (lt-ltb k (length xs) below)))
+
+pub none-passing : {A : Type 0} (p : SeatFacts → Bool) (f : A → SeatFacts) (xs : List A) → ((k : ℕ) (d : A) → k < length xs → p (f (get_or xs k d)) ≡ false) → None ≡ position p (map f xs)
+none-passing p f xs none =
+    let at = runs-out (λ x. p (f x)) xs none in
+    position-map p f xs None (sym ((λ i. if nat_lt (at i) (length xs) then Some (at i) else None) ∙ past-end (length xs) (Some (length xs))))
+
+-- ---- handed in
+
+seats-append : {A : Type 0} (f : A → SeatFacts) (xs ys : List A) → map f (xs ++ ys) ≡ map f xs ++ map f ys
+seats-append f [] ys = refl
+seats-append f (x ∷ xs) ys = ap (λ rest. f x ∷ rest) (seats-append f xs ys)
+
+-- the first of those that are left gets its seat
+pub seated : {A B : Type 0} (f : A → SeatFacts) (new : B → SeatFacts) (old made : List A) (seat : A) (left rest : List B) (object : B) (all : List SeatFacts) → left ≡ object ∷ rest → f seat ≡ new object → map f old ++ map new left ≡ all → made ≡ old ++ seat ∷ [] → map f made ++ map new rest ≡ all
+seated f new old made seat left rest object all first is before pushed =
+    ap (λ xs. map f xs ++ map new rest) pushed ∙ ap (λ s. s ++ map new rest) (seats-append f old (seat ∷ []))
+    ∙ ap (λ s. (map f old ++ s ∷ []) ++ map new rest) is ∙ append_assoc (map f old) (new object ∷ []) (map new rest)
+    ∙ ap (λ xs. map f old ++ map new xs) (sym first) ∙ before
+
+pub rest-all : {B : Type 0} (P : B → Type 0) (left rest : List B) (object : B) → left ≡ object ∷ rest → All P left → All P rest
+rest-all P left rest object first a = All-tail P object rest (subst (All P) first a)
+
+pub room-made : {A : Type 0} (f : A → SeatFacts) (n : ℕ) (old made : List A) (x : A) → made ≡ old ++ x ∷ [] → ((k : ℕ) (d : A) → k < length old → HasRoom n (f (get_or old k d))) → HasRoom n (f x) → (k : ℕ) (d : A) → k < length made → HasRoom n (f (get_or made k d))
+room-made f n old made x pushed all here =
+    subst (λ xs. (k : ℕ) (d : _) → k < length xs → HasRoom n (f (get_or xs k d))) (sym pushed) (room-pushed f n old x all here)

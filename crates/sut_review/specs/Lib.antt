@@ -1,0 +1,4 @@
+pub mod Rules
+pub mod Marks
+pub mod Seats
+pub mod ReviewText
