@@ -4,7 +4,7 @@ ghost use Rattle.std.specs.Prelude.{◌≡◌, ◌≤◌, ◌<◌, ◌+◌, ◌*
 ghost use Rattle.std.specs.List.{flat_map};
 ghost use Rattle.sut_tables.specs.Problems.{IsTableOf};
 ghost use Rattle.sut_text.specs.Fields.{field_bytes};
-ghost use Rattle.sut_text.specs.Text.{line_text};
+ghost use Rattle.sut_text.specs.Text.{field_text, line_text};
 ghost use Rattle.sut_review.specs.Rules.{SameRule, asked, marks_of};
 ghost use Rattle.sut_review.specs.ReviewText.{seat_line, yes_or_no};
 ghost use Rattle.sut_review.specs.Seats.{HasRoom, all_shown, ended, new_seat, seat_of, seat_shown, seats_of, stands_with};
@@ -126,11 +126,18 @@ fn standing_field(stands: bool) -> Field<'static>
     }
 }
 
+// Appends a label as a field of a line.
+fn put_label(out: &mut Vec<u8>, label: &[u8]) -> Result<(), NoMemory>
+    ensures { OnOk result (out.new.items ≡ out.old.items ++ field_text label.now) }
+{
+    put_field(out, label)
+}
+
 // Appends the reviewer's line.
 pub(crate) fn put_seat(out: &mut Vec<u8>, seat: &Seat) -> Result<(), NoMemory>
     ensures { OnOk result (out.new.items ≡ out.old.items ++ line_text (seat_line (seat_of (λ b. rule b) (λ b. marked b) seat.now.label.items seat.now.seen seat.now.tally seat.now.object))) }
 {
-    put_field(out, &seat.label)?;
+    put_label(out, &seat.label)?;
     put_line_end(
         out,
         &[

@@ -1,0 +1,129 @@
+use crate::laws::values_asked;
+use crate::{AtBound, FarFrom, Panel, Reviewer};
+use no_memory::NoMemory;
+use std::alloc::Global;
+use std::process::Abort;
+use std::test::Fail;
+use sut_classes::{Column, FinalId, IndustryId, ItemId, ProductId, read_classes};
+use sut_measures::{Cell, Measure, fits};
+use sut_readback::read_balanced;
+use sut_tables::{Penalty, Problem, Row, Table, value};
+
+ghost use Rattle.std.specs.Prelude.{◌≡◌, [], int_rem, not, pos};
+ghost use Rattle.std.specs.Ordering.{int_eq};
+ghost use Rattle.sut_tables.specs.Problems.{IsTableOf};
+ghost use Rattle.sut_review.specs.Rules.{marks_of};
+
+// Marks each row with an odd value. Its label is the empty text.
+#[derive(Drop)]
+struct Odd {
+    tally: u64,
+}
+
+impl Odd {
+    fn count_marked(&self, p: &Problem, t: &Table) -> u64
+        requires { IsTableOf p.now t.now }
+        ensures { result ≡ marks_of (λ row value. not (int_eq (int_rem value (pos 2)) (pos 0))) p.now t.now }
+    {
+        values_asked(p, t);
+        let marked = p
+            .rows()
+            .filter(|row| self.marks(row, value(t, row.measure())));
+        marked.count() as u64
+    }
+}
+
+impl Reviewer for Odd {
+    ghost rule = { λ _ row value. not (int_eq (int_rem value (pos 2)) (pos 0)) };
+
+    ghost marked = { λ o. o.tally };
+
+    ghost name = { λ _. [] };
+
+    fn marks(&self, _row: &Row, value: i128) -> bool {
+        value % 2 != 0
+    }
+
+    fn see(&mut self, p: &Problem, t: &Table) {
+        values_asked(p, t);
+        let count = self.count_marked(p, t);
+        self.tally += count;
+    }
+
+    fn tally(&self) -> u64 {
+        self.tally
+    }
+
+    fn label(&self) -> &str {
+        ""
+    }
+}
+
+const CLASSES: &[u8] = b"axis,code,kind\nproduct,X,plain\nindustry,A,\nfinal,F,\nitem,V,\n";
+
+/// A make aimed at 100 and at most 105, a purchase aimed at 99, and an added item that is 0.
+const ROWS: [(Cell, i64, i64); 3] = [
+    (Cell::Make(ProductId(0), IndustryId(0)), 100, 105),
+    (
+        Cell::Basic(ProductId(0), Column::Final(FinalId(0))),
+        99,
+        1000,
+    ),
+    (Cell::Added(ItemId(0), IndustryId(0)), 0, 0),
+];
+
+fn small(rt: &impl Abort, alloc: Global) -> Result<Problem, Fail> {
+    let classes = read_classes(alloc, CLASSES).ok().ok_or("classes")?;
+    let mut problem = Problem::new(alloc, classes);
+    for (cell, target, upper) in ROWS {
+        let measure = Measure::Cell(cell);
+        let row =
+            Row::new(measure, Some(target), Penalty::Square, 0, 1, 0, upper).ok_or("a row")?;
+        assert!(rt; fits(problem.classes(), row.measure()));
+        assert!(rt; problem.add(row).is_ok());
+    }
+    Ok(problem)
+}
+
+/// 105 is made and bought.
+const TABLE: &str =
+    "kind,a,b,c,target,value\nmake,X,A,,100,105\nbasic,X,F,,99,105\nadded,V,A,,0,0\npurchase,X,F,,,105\nsupply,X,,,,105\noutput,A,,,,105\nvalue_added,A,,,,0\nitem_total,V,,,,0\nfinal_total,F,,,,105\ngdp,,,,,105\n";
+
+/// A rule of the caller's own beside one of this crate.
+#[test]
+fn a_panel_counts_by_rule(rt: HostRuntime) -> Result<(), Fail> {
+    let problem = small(&rt, rt.alloc())?;
+    let table = read_balanced(rt.alloc(), &problem, TABLE.as_bytes())?;
+    let mut list: Vec<Box<dyn Reviewer>> = Vec::new(rt.alloc());
+    list.push(Box::new(rt.alloc(), AtBound::new())?).map_err(|_| NoMemory)?;
+    list.push(Box::new(rt.alloc(), Odd { tally: 0 })?).map_err(|_| NoMemory)?;
+    let mut panel = Panel::new(rt.alloc(), list)?;
+    panel.review_all(&problem, &table);
+    assert_eq!(rt;
+        panel.text(rt.alloc())?.as_slice(),
+        b"label,seen,tally,standing\nat_bound,1,1,yes\n,1,2,yes\n".as_slice()
+    );
+    Ok(())
+}
+
+/// Of two reviewers with one label the first is dismissed first, and counts no more.
+#[test]
+fn the_first_is_dismissed_first(rt: HostRuntime) -> Result<(), Fail> {
+    let problem = small(&rt, rt.alloc())?;
+    let table = read_balanced(rt.alloc(), &problem, TABLE.as_bytes())?;
+    let mut list: Vec<Box<dyn Reviewer>> = Vec::new(rt.alloc());
+    list.push(Box::new(rt.alloc(), FarFrom::new(1))?).map_err(|_| NoMemory)?;
+    list.push(Box::new(rt.alloc(), FarFrom::new(5))?).map_err(|_| NoMemory)?;
+    let mut panel = Panel::new(rt.alloc(), list)?;
+    panel.review_all(&problem, &table);
+    assert_eq!(rt; panel.standing(b"far_from"), Some(0));
+    assert!(rt; panel.dismiss(0));
+    assert_eq!(rt; panel.standing(b"far_from"), Some(1));
+    assert!(rt; !panel.dismiss(0));
+    panel.review_all(&problem, &table);
+    assert_eq!(rt;
+        panel.text(rt.alloc())?.as_slice(),
+        b"label,seen,tally,standing\nfar_from,1,2,no\nfar_from,2,2,yes\n".as_slice()
+    );
+    Ok(())
+}
