@@ -34,13 +34,11 @@ pub fn tallies()
       standing = Some (asked rule);
     } }
     ensures left { (tables : List (ProblemFacts × TableFacts)) (seat : SeatFacts) → seat_after tables (ended seat) ≡ ended seat }
-{
-}
+{}
 
 /// The place that `Panel::standing` gives for a label is that of the first reviewer that stands with it, and `dismiss` at
 /// that place ends its standing. It does nothing.
 pub fn first_with_label()
     ensures stands { (label : List ℕ) (seats : List SeatFacts) (k : ℕ) → position (stands_with label) seats ≡ Some k → stands_at k seats ≡ true }
     ensures ends { (label : List ℕ) (seats : List SeatFacts) (k : ℕ) → position (stands_with label) seats ≡ Some k → dismissed_at k seats ≡ dismissed label seats }
-{
-}
+{}

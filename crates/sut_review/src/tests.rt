@@ -1,3 +1,8 @@
+ghost use Rattle.std.specs.Prelude.{◌≡◌, [], int_rem, not, pos};
+ghost use Rattle.std.specs.Ordering.{int_eq};
+ghost use Rattle.sut_tables.specs.Problems.{IsTableOf};
+ghost use Rattle.sut_review.specs.Rules.{marks_of};
+
 use crate::laws::values_asked;
 use crate::{AtBound, FarFrom, Panel, Reviewer};
 use no_memory::NoMemory;
@@ -8,11 +13,6 @@ use sut_classes::{Column, FinalId, IndustryId, ItemId, ProductId, read_classes};
 use sut_measures::{Cell, Measure, fits};
 use sut_readback::read_balanced;
 use sut_tables::{Penalty, Problem, Row, Table, value};
-
-ghost use Rattle.std.specs.Prelude.{◌≡◌, [], int_rem, not, pos};
-ghost use Rattle.std.specs.Ordering.{int_eq};
-ghost use Rattle.sut_tables.specs.Problems.{IsTableOf};
-ghost use Rattle.sut_review.specs.Rules.{marks_of};
 
 // Marks each row with an odd value. Its label is the empty text.
 #[derive(Drop)]
@@ -77,8 +77,7 @@ fn small(rt: &impl Abort, alloc: Global) -> Result<Problem, Fail> {
     let mut problem = Problem::new(alloc, classes);
     for (cell, target, upper) in ROWS {
         let measure = Measure::Cell(cell);
-        let row =
-            Row::new(measure, Some(target), Penalty::Square, 0, 1, 0, upper).ok_or("a row")?;
+        let row = Row::new(measure, Some(target), Penalty::Square, 0, 1, 0, upper).ok_or("a row")?;
         assert!(rt; fits(problem.classes(), row.measure()));
         assert!(rt; problem.add(row).is_ok());
     }
@@ -95,8 +94,10 @@ fn a_panel_counts_by_rule(rt: HostRuntime) -> Result<(), Fail> {
     let problem = small(&rt, rt.alloc())?;
     let table = read_balanced(rt.alloc(), &problem, TABLE.as_bytes())?;
     let mut list: Vec<Box<dyn Reviewer>> = Vec::new(rt.alloc());
-    list.push(Box::new(rt.alloc(), AtBound::new())?).map_err(|_| NoMemory)?;
-    list.push(Box::new(rt.alloc(), Odd { tally: 0 })?).map_err(|_| NoMemory)?;
+    list.push(Box::new(rt.alloc(), AtBound::new())?)
+        .map_err(|_| NoMemory)?;
+    list.push(Box::new(rt.alloc(), Odd { tally: 0 })?)
+        .map_err(|_| NoMemory)?;
     let mut panel = Panel::new(rt.alloc(), list)?;
     panel.review_all(&problem, &table);
     assert_eq!(rt;
@@ -112,18 +113,20 @@ fn the_first_is_dismissed_first(rt: HostRuntime) -> Result<(), Fail> {
     let problem = small(&rt, rt.alloc())?;
     let table = read_balanced(rt.alloc(), &problem, TABLE.as_bytes())?;
     let mut list: Vec<Box<dyn Reviewer>> = Vec::new(rt.alloc());
-    list.push(Box::new(rt.alloc(), FarFrom::new(1))?).map_err(|_| NoMemory)?;
-    list.push(Box::new(rt.alloc(), FarFrom::new(5))?).map_err(|_| NoMemory)?;
+    list.push(Box::new(rt.alloc(), FarFrom::new(1))?)
+        .map_err(|_| NoMemory)?;
+    list.push(Box::new(rt.alloc(), FarFrom::new(5))?)
+        .map_err(|_| NoMemory)?;
     let mut panel = Panel::new(rt.alloc(), list)?;
+    let first = panel.standing(b"far_from");
+    let ended = panel.dismiss(0);
+    let again = panel.dismiss(0);
+    let next = panel.standing(b"far_from");
     panel.review_all(&problem, &table);
-    assert_eq!(rt; panel.standing(b"far_from"), Some(0));
-    assert!(rt; panel.dismiss(0));
-    assert_eq!(rt; panel.standing(b"far_from"), Some(1));
-    assert!(rt; !panel.dismiss(0));
-    panel.review_all(&problem, &table);
+    assert!(rt; first == Some(0) && ended && !again && next == Some(1));
     assert_eq!(rt;
         panel.text(rt.alloc())?.as_slice(),
-        b"label,seen,tally,standing\nfar_from,1,2,no\nfar_from,2,2,yes\n".as_slice()
+        b"label,seen,tally,standing\nfar_from,0,0,no\nfar_from,1,1,yes\n".as_slice()
     );
     Ok(())
 }
