@@ -1,5 +1,5 @@
 -- Rules as far as they are asked.
-use Rattle.std.proofs.Common.{◌≡◌, ◌∙◌, ℕ, ◌^◌, ℤ, pos, neg_ℤ, Bool, true, false, refl, ap, arith, ◌&&◌}
+use Rattle.std.proofs.Common.{◌≡◌, ◌^◌, ℤ, pos, neg_ℤ, Bool, true, false, refl, ap, arith, ◌&&◌}
 use Rattle.std.specs.Prelude.{All, ◌≤◌, ◌≤ℤ◌, count_by, int_le, length}
 use Rattle.std.proofs.lemmas.Int.{ints}
 use Rattle.std.proofs.lemmas.List.Sums.{count_by-le-length}

@@ -1,6 +1,5 @@
-use Rattle.std.proofs.Common.{◌≡◌, ◌∷◌, [], ◌++◌, decimal, rules}
+use Rattle.std.proofs.Common.{◌≡◌, ◌++◌, rules}
 use Rattle.sut_text.specs.Text.{field_text}
-use Rattle.sut_review.specs.ReviewText.{yes_or_no}
 use Rattle.sut_review.proofs.ReviewLines.{line-appended}
 use Rattle.sut_review.proofs.seats.put_seat.Goals as goal
 

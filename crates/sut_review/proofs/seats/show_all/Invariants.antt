@@ -1,5 +1,5 @@
 use Rattle.std.proofs.Common.{◌≡◌, ◌≤◌, ◌<◌, ◌+◌, ℕ, vec_len, slice_index_or}
-use Rattle.sut_review.specs.Seats.{HasRoom, SeatFacts, seat_of, seat_shown}
+use Rattle.sut_review.specs.Seats.{HasRoom, seat_of, seat_shown}
 use Rattle.sut_review.proofs.seats.show_all.Given as goal
 
 abbrev pub invariant-loop-i : goal.invariant-loop-i

@@ -1,4 +1,4 @@
-use Rattle.std.proofs.Common.{◌≡◌, ◌∙◌, ◌+◌, ap, arith, sym}
+use Rattle.std.proofs.Common.{◌∙◌, ◌+◌, ap, arith, sym}
 use Rattle.sut_review.proofs.Asked.{same-asked}
 use Rattle.sut_review.proofs.seats.show_box.Goals as goal
 
