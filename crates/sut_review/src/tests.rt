@@ -1,7 +1,8 @@
-ghost use Rattle.std.specs.Prelude.{◌≡◌, [], int_rem, not, pos};
+ghost use Rattle.std.specs.Prelude.{◌≡◌, ◌<◌, [], All, IfOk, int_rem, not, pos};
 ghost use Rattle.std.specs.Ordering.{int_eq};
 ghost use Rattle.sut_tables.specs.Problems.{IsTableOf};
 ghost use Rattle.sut_review.specs.Rules.{marks_of};
+ghost use Rattle.sut_review.specs.Seats.{HasRoom, seat_of, seats_of};
 
 use crate::laws::values_asked;
 use crate::{AtBound, FarFrom, Panel, Reviewer};
@@ -61,7 +62,50 @@ impl Reviewer for Odd {
 
 const CLASSES: &[u8] = b"axis,code,kind\nproduct,X,plain\nindustry,A,\nfinal,F,\nitem,V,\n";
 
-/// A make aimed at 100 and at most 105, a purchase aimed at 99, and an added item that is 0.
+// A panel of two reviewers.
+fn panel_of(
+    alloc: Global,
+    first: Box<dyn Reviewer>,
+    second: Box<dyn Reviewer>,
+) -> Result<Panel, NoMemory>
+    requires first { marked first ≡ 0 }
+    requires second { marked second ≡ 0 }
+    ensures shown { IfOk result (λ panel. panel.shown ≡ 0) }
+    ensures room { IfOk result (λ panel. All (HasRoom panel.shown) (seats_of panel.seats.items (λ seat. seat_of (λ b. rule b) (λ b. marked b) seat.label.items seat.seen seat.tally seat.object))) }
+{
+    let mut list = Vec::new(alloc);
+    list.push(first)?;
+    list.push(second)?;
+    Panel::new(alloc, list)
+}
+
+// The review once the table was shown.
+fn reviewed(
+    alloc: Global,
+    mut panel: Panel,
+    p: &Problem,
+    t: &Table,
+) -> Result<Vec<u8>, NoMemory>
+    requires few { panel.shown < 64 }
+    requires room { All (HasRoom panel.shown) (seats_of panel.seats.items (λ seat. seat_of (λ b. rule b) (λ b. marked b) seat.label.items seat.seen seat.tally seat.object)) }
+    requires of { IsTableOf p.now t.now }
+{
+    panel.review_all(p, t);
+    panel.text(alloc)
+}
+
+// Dismisses the first with a label twice, and says where one stands before and after, and what was answered.
+fn dismiss_twice(panel: &mut Panel, label: &[u8]) -> (Option<usize>, bool, bool, Option<usize>)
+    ensures shown { panel.new.shown ≡ panel.old.shown }
+    ensures room { All (HasRoom panel.old.shown) (seats_of panel.old.seats.items (λ seat. seat_of (λ b. rule b) (λ b. marked b) seat.label.items seat.seen seat.tally seat.object)) → All (HasRoom panel.new.shown) (seats_of panel.new.seats.items (λ seat. seat_of (λ b. rule b) (λ b. marked b) seat.label.items seat.seen seat.tally seat.object)) }
+{
+    let before = panel.standing(label);
+    let ended = panel.dismiss(0);
+    let again = panel.dismiss(0);
+    (before, ended, again, panel.standing(label))
+}
+
+// A make aimed at 100 and at most 105, a purchase aimed at 99, and an added item that is 0.
 const ROWS: [(Cell, i64, i64); 3] = [
     (Cell::Make(ProductId(0), IndustryId(0)), 100, 105),
     (
@@ -77,14 +121,15 @@ fn small(rt: &impl Abort, alloc: Global) -> Result<Problem, Fail> {
     let mut problem = Problem::new(alloc, classes);
     for (cell, target, upper) in ROWS {
         let measure = Measure::Cell(cell);
-        let row = Row::new(measure, Some(target), Penalty::Square, 0, 1, 0, upper).ok_or("a row")?;
+        let row =
+            Row::new(measure, Some(target), Penalty::Square, 0, 1, 0, upper).ok_or("a row")?;
         assert!(rt; fits(problem.classes(), row.measure()));
         assert!(rt; problem.add(row).is_ok());
     }
     Ok(problem)
 }
 
-/// 105 is made and bought.
+// 105 is made and bought.
 const TABLE: &str =
     "kind,a,b,c,target,value\nmake,X,A,,100,105\nbasic,X,F,,99,105\nadded,V,A,,0,0\npurchase,X,F,,,105\nsupply,X,,,,105\noutput,A,,,,105\nvalue_added,A,,,,0\nitem_total,V,,,,0\nfinal_total,F,,,,105\ngdp,,,,,105\n";
 
@@ -93,15 +138,11 @@ const TABLE: &str =
 fn a_panel_counts_by_rule(rt: HostRuntime) -> Result<(), Fail> {
     let problem = small(&rt, rt.alloc())?;
     let table = read_balanced(rt.alloc(), &problem, TABLE.as_bytes())?;
-    let mut list: Vec<Box<dyn Reviewer>> = Vec::new(rt.alloc());
-    list.push(Box::new(rt.alloc(), AtBound::new())?)
-        .map_err(|_| NoMemory)?;
-    list.push(Box::new(rt.alloc(), Odd { tally: 0 })?)
-        .map_err(|_| NoMemory)?;
-    let mut panel = Panel::new(rt.alloc(), list)?;
-    panel.review_all(&problem, &table);
+    let at_bound = Box::new(rt.alloc(), AtBound::new())?;
+    let odd = Box::new(rt.alloc(), Odd { tally: 0 })?;
+    let panel = panel_of(rt.alloc(), at_bound, odd)?;
     assert_eq!(rt;
-        panel.text(rt.alloc())?.as_slice(),
+        reviewed(rt.alloc(), panel, &problem, &table)?.as_slice(),
         b"label,seen,tally,standing\nat_bound,1,1,yes\n,1,2,yes\n".as_slice()
     );
     Ok(())
@@ -112,20 +153,13 @@ fn a_panel_counts_by_rule(rt: HostRuntime) -> Result<(), Fail> {
 fn the_first_is_dismissed_first(rt: HostRuntime) -> Result<(), Fail> {
     let problem = small(&rt, rt.alloc())?;
     let table = read_balanced(rt.alloc(), &problem, TABLE.as_bytes())?;
-    let mut list: Vec<Box<dyn Reviewer>> = Vec::new(rt.alloc());
-    list.push(Box::new(rt.alloc(), FarFrom::new(1))?)
-        .map_err(|_| NoMemory)?;
-    list.push(Box::new(rt.alloc(), FarFrom::new(5))?)
-        .map_err(|_| NoMemory)?;
-    let mut panel = Panel::new(rt.alloc(), list)?;
-    let first = panel.standing(b"far_from");
-    let ended = panel.dismiss(0);
-    let again = panel.dismiss(0);
-    let next = panel.standing(b"far_from");
-    panel.review_all(&problem, &table);
-    assert!(rt; first == Some(0) && ended && !again && next == Some(1));
+    let one = Box::new(rt.alloc(), FarFrom::new(1))?;
+    let five = Box::new(rt.alloc(), FarFrom::new(5))?;
+    let mut panel = panel_of(rt.alloc(), one, five)?;
+    let answers = dismiss_twice(&mut panel, b"far_from");
+    assert_eq!(rt; answers, (Some(0), true, false, Some(1)));
     assert_eq!(rt;
-        panel.text(rt.alloc())?.as_slice(),
+        reviewed(rt.alloc(), panel, &problem, &table)?.as_slice(),
         b"label,seen,tally,standing\nfar_from,0,0,no\nfar_from,1,1,yes\n".as_slice()
     );
     Ok(())
