@@ -80,12 +80,7 @@ fn panel_of(
 }
 
 // The review once the table was shown.
-fn reviewed(
-    alloc: Global,
-    mut panel: Panel,
-    p: &Problem,
-    t: &Table,
-) -> Result<Vec<u8>, NoMemory>
+fn reviewed(alloc: Global, mut panel: Panel, p: &Problem, t: &Table) -> Result<Vec<u8>, NoMemory>
     requires few { panel.shown < 64 }
     requires room { All (HasRoom panel.shown) (seats_of panel.seats.items (λ seat. seat_of (λ b. rule b) (λ b. marked b) seat.label.items seat.seen seat.tally seat.object)) }
     requires of { IsTableOf p.now t.now }
@@ -121,8 +116,7 @@ fn small(rt: &impl Abort, alloc: Global) -> Result<Problem, Fail> {
     let mut problem = Problem::new(alloc, classes);
     for (cell, target, upper) in ROWS {
         let measure = Measure::Cell(cell);
-        let row =
-            Row::new(measure, Some(target), Penalty::Square, 0, 1, 0, upper).ok_or("a row")?;
+        let row = Row::new(measure, Some(target), Penalty::Square, 0, 1, 0, upper).ok_or("a row")?;
         assert!(rt; fits(problem.classes(), row.measure()));
         assert!(rt; problem.add(row).is_ok());
     }
