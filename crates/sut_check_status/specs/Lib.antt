@@ -1,0 +1,4 @@
+pub mod CheckCodes
+pub mod ReasonTexts
+pub mod CheckFaultWords
+pub mod CheckLines
