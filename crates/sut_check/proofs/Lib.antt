@@ -1,0 +1,6 @@
+pub mod CheckSteps
+pub mod ReadAnswers
+pub mod ReadClaims
+pub mod Found
+pub mod Ended
+pub mod Asked

@@ -5,6 +5,7 @@ use Rattle.sut_cert.specs.declared.faults.CertFault.{CertFault}
 use Rattle.sut_readback.specs.declared.faults.BalancedCause.{BalancedCause}
 use Rattle.sut_readback.specs.declared.faults.BalancedCause.TheVariants as table
 use Rattle.sut_readback.specs.declared.faults.BalancedFault.{BalancedFault}
+use Rattle.sut_input.specs.declared.faults.InputFault.{InputFault}
 use Rattle.sut_input.specs.declared.faults.InputFault.TheVariants as input
 use Rattle.sut_verify.specs.declared.verdicts.Verdict.{Verdict}
 use Rattle.sut_verify.specs.declared.verdicts.Verdict.TheVariants as verdict
@@ -14,29 +15,33 @@ use Rattle.sut_check.specs.declared.faults.CheckFault.{CheckFault}
 use Rattle.sut_check.specs.declared.faults.CheckFault.TheVariants.{Input, BadCertificate, BadTable}
 
 -- a reader's fault; want of memory is no fault of a file
-abbrev pub unless_no_memory : CertCause → CertFault → CheckFault
-unless_no_memory cert.NoMemory fault = Input input.NoMemory
-unless_no_memory _ fault = BadCertificate fault
+abbrev pub certificate_unless_no_memory : CertCause → CertFault → CheckFault
+certificate_unless_no_memory cert.NoMemory fault = Input input.NoMemory
+certificate_unless_no_memory _ fault = BadCertificate fault
 
 abbrev pub certificate_fault : CertFault → CheckFault
-certificate_fault fault = unless_no_memory fault.cause fault
+certificate_fault fault = certificate_unless_no_memory fault.cause fault
 
-abbrev pub unless_none_left : BalancedCause → BalancedFault → CheckFault
-unless_none_left table.NoMemory fault = Input input.NoMemory
-unless_none_left _ fault = BadTable fault
+abbrev pub table_unless_no_memory : BalancedCause → BalancedFault → CheckFault
+table_unless_no_memory table.NoMemory fault = Input input.NoMemory
+table_unless_no_memory _ fault = BadTable fault
 
 abbrev pub table_fault : BalancedFault → CheckFault
-table_fault fault = unless_none_left fault.cause fault
+table_fault fault = table_unless_no_memory fault.cause fault
+
+-- the status of a check of files that give no problem
+abbrev pub input_status : InputFault → CheckStatus
+input_status (input.Missing name) = status.Missing name
+input_status (input.TooLong name) = status.TooLong name
+input_status (input.ReadFault name) = status.ReadFault name
+input_status (input.BadSettings e) = status.BadSettings e
+input_status (input.BadClasses e) = status.BadClasses e
+input_status (input.BadSource e) = status.BadSource e
+input_status input.NoMemory = status.NoMemory
 
 -- the status of a check that is refused
 abbrev pub status_of : CheckFault → CheckStatus
-status_of (Input (input.Missing name)) = status.Missing name
-status_of (Input (input.TooLong name)) = status.TooLong name
-status_of (Input (input.ReadFault name)) = status.ReadFault name
-status_of (Input (input.BadSettings e)) = status.BadSettings e
-status_of (Input (input.BadClasses e)) = status.BadClasses e
-status_of (Input (input.BadSource e)) = status.BadSource e
-status_of (Input input.NoMemory) = status.NoMemory
+status_of (Input e) = input_status e
 status_of (BadCertificate e) = status.BadCertificate e
 status_of (BadTable e) = status.BadTable e
 

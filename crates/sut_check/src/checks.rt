@@ -7,6 +7,7 @@ ghost use Rattle.sut_check.specs.CheckWords.{IsCheckedSource, checked_names, che
 ghost use Rattle.sut_check.specs.Statuses.{status_for};
 ghost use Rattle.sut_check.specs.Claims.{claim_in};
 ghost use Rattle.sut_check.specs.Findings.{IsClaimFor, check_text, verdict_of};
+ghost use Rattle.sut_check.specs.Judged.{EndsAs, lines_in};
 ghost use Rattle.sut_check.specs.CheckEnds.{AnswersCheck, AnswersClaim, AreLines, IfReadFault, Prints};
 
 use crate::claims::read_claim;
@@ -32,6 +33,19 @@ fn print_lines<K: Sink>(out: &mut K, lines: &[u8], ends: CheckStatus) -> CheckSt
     }
 }
 
+// Prints the lines of a judged claim, where it is accepted.
+fn print_judged<K: Sink>(out: &mut K, judged: &Judged) -> CheckStatus
+    ensures ends { EndsAs judged.now result }
+    ensures printed { Told (K.sent out.old) (K.sent out.new) (Prints (λ text. text ≡ lines_in judged.now) result) }
+    ensures sink_fault { result ≡ CheckStatus.SinkFault → Rose (K.faults out.old) (K.faults out.new) }
+{
+    match judged {
+        Judged::Least(lines) => print_lines(out, lines, CheckStatus::Least),
+        Judged::NoTable(lines) => print_lines(out, lines, CheckStatus::NoTable),
+        Judged::Refused(reason) => CheckStatus::Refused(*reason),
+    }
+}
+
 // Judges a claim, and prints the lines of one that is accepted.
 fn check_claim<K: Sink>(alloc: Global, p: &Problem, a: &Answer, out: &mut K) -> CheckStatus
     requires { IsClaimFor p.now a.now }
@@ -40,9 +54,7 @@ fn check_claim<K: Sink>(alloc: Global, p: &Problem, a: &Answer, out: &mut K) -> 
     ensures sink_fault { result ≡ CheckStatus.SinkFault → Rose (K.faults out.old) (K.faults out.new) }
 {
     match judge(alloc, p, a) {
-        Ok(Judged::Least(lines)) => print_lines(out, &lines, CheckStatus::Least),
-        Ok(Judged::NoTable(lines)) => print_lines(out, &lines, CheckStatus::NoTable),
-        Ok(Judged::Refused(reason)) => CheckStatus::Refused(reason),
+        Ok(judged) => print_judged(out, &judged),
         Err(_) => CheckStatus::NoMemory,
     }
 }

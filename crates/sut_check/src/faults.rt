@@ -1,7 +1,7 @@
 //! Why the files of a check spell nothing that can be judged.
 
 ghost use Rattle.std.specs.Prelude.{◌≡◌};
-ghost use Rattle.sut_check.specs.Statuses.{certificate_fault, status_of, table_fault};
+ghost use Rattle.sut_check.specs.Statuses.{certificate_fault, input_status, status_of, table_fault};
 
 use sut_cert::{CertCause, CertFault};
 use sut_check_status::CheckStatus;
@@ -37,18 +37,27 @@ pub(crate) fn table_fault(fault: BalancedFault) -> CheckFault
     }
 }
 
+// The status of a check of files that give no problem.
+fn input_status(fault: InputFault) -> CheckStatus
+    ensures { result ≡ input_status fault }
+{
+    match fault {
+        InputFault::Missing(name) => CheckStatus::Missing(name),
+        InputFault::TooLong(name) => CheckStatus::TooLong(name),
+        InputFault::ReadFault(name) => CheckStatus::ReadFault(name),
+        InputFault::BadSettings(fault) => CheckStatus::BadSettings(fault),
+        InputFault::BadClasses(fault) => CheckStatus::BadClasses(fault),
+        InputFault::BadSource(fault) => CheckStatus::BadSource(fault),
+        InputFault::NoMemory => CheckStatus::NoMemory,
+    }
+}
+
 // The status of a check that is refused.
 pub(crate) fn status_of(fault: CheckFault) -> CheckStatus
     ensures { result ≡ status_of fault }
 {
     match fault {
-        CheckFault::Input(InputFault::Missing(name)) => CheckStatus::Missing(name),
-        CheckFault::Input(InputFault::TooLong(name)) => CheckStatus::TooLong(name),
-        CheckFault::Input(InputFault::ReadFault(name)) => CheckStatus::ReadFault(name),
-        CheckFault::Input(InputFault::BadSettings(fault)) => CheckStatus::BadSettings(fault),
-        CheckFault::Input(InputFault::BadClasses(fault)) => CheckStatus::BadClasses(fault),
-        CheckFault::Input(InputFault::BadSource(fault)) => CheckStatus::BadSource(fault),
-        CheckFault::Input(InputFault::NoMemory) => CheckStatus::NoMemory,
+        CheckFault::Input(fault) => input_status(fault),
         CheckFault::BadCertificate(fault) => CheckStatus::BadCertificate(fault),
         CheckFault::BadTable(fault) => CheckStatus::BadTable(fault),
     }

@@ -78,6 +78,26 @@ fn with_table<F: Shelf>(
     }
 }
 
+// The answer that a certificate claims; the table is read only where it holds potentials.
+fn by_certificate<F: Shelf>(
+    alloc: Global,
+    shelf: &mut F,
+    p: &Problem,
+    certificate: Certificate,
+) -> Result<Answer, CheckFault>
+    ensures kept { Told (F.files shelf.old) (F.files shelf.new) SameFiles }
+    ensures ok { IfOk result (λ a. IfSome (F.files shelf.old) (λ files. answer_by p.now certificate None files ≡ Ok a)) }
+    ensures belongs { IfOk result (IsClaimFor p.now) }
+    ensures err { IfErr result (λ fault. IfSome (F.files shelf.old) (λ files. Refuses (answer_by p.now certificate) files fault)) }
+    ensures later { F.faults shelf.old ≤ F.faults shelf.new }
+    ensures cause { IfErr result (FailsIn (FileName.BalancedCsv ∷ []) (F.faults shelf.old) (F.faults shelf.new) (F.last_failed shelf.new)) }
+{
+    match certificate {
+        Certificate::Potentials(potentials) => with_table(alloc, shelf, p, potentials),
+        Certificate::Cut(set) => Ok(Answer::Infeasible(set)),
+    }
+}
+
 /// Reads `certificate.csv`, and `balanced.csv` where it holds potentials: the answer that is claimed for a problem.
 pub(crate) fn read_answer<F: Shelf>(
     alloc: Global,
@@ -92,8 +112,7 @@ pub(crate) fn read_answer<F: Shelf>(
     ensures cause { IfErr result (FailsIn answer_names (F.faults shelf.old) (F.faults shelf.new) (F.last_failed shelf.new)) }
 {
     match read_certificate_file(alloc, shelf, p) {
-        Ok(Certificate::Potentials(potentials)) => with_table(alloc, shelf, p, potentials),
-        Ok(Certificate::Cut(set)) => Ok(Answer::Infeasible(set)),
+        Ok(certificate) => by_certificate(alloc, shelf, p, certificate),
         Err(fault) => Err(fault),
     }
 }
