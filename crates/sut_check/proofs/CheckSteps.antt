@@ -1,5 +1,6 @@
 -- Steps of reading in a row.
 use Rattle.std.proofs.Common.{◌≡◌, ◌≤◌, ◌∙◌, ℕ, List, [], ◌∷◌, Option, Some, None, Result, Ok, Err, Contains, IfSome, ap, sym, refl, subst, arith}
+use Rattle.std.specs.Prelude.{IfErr, IfOk}
 use Rattle.sut_outside.specs.declared.names.FileName.{FileName}
 use Rattle.sut_outside.specs.Files.{Files}
 use Rattle.sut_outside.specs.Causes.{Rose}
@@ -21,6 +22,15 @@ if-told P Q f (Some files) h = f files h
 pub if-both : (P Q R : Files → Type 0) → ((files : Files) → P files → Q files → R files) → (held : Option Files) → IfSome held P → IfSome held Q → IfSome held R
 if-both P Q R f None h k = tt
 if-both P Q R f (Some files) h k = f files h k
+
+-- facts on what a call gave, or on its fault
+pub ok-as : {A E : Type 0} (r : Result A E) (P Q : A → Type 0) → ((a : A) → P a → Q a) → IfOk r P → IfOk r Q
+ok-as (Ok a) P Q f h = f a h
+ok-as (Err e) P Q f h = tt
+
+pub err-as : {A E : Type 0} (r : Result A E) (P Q R : E → Type 0) → ((e : E) → P e → Q e → R e) → IfErr r P → IfErr r Q → IfErr r R
+err-as (Ok a) P Q R f h k = tt
+err-as (Err e) P Q R f h k = f e h k
 
 -- facts on refusals but want of memory
 pub unless-as : (P Q : Type 0) → (P → Q) → (fault : CheckFault) → UnlessNoMemory fault P → UnlessNoMemory fault Q
