@@ -61,7 +61,9 @@ if-failed P Q f (BadTable e) h = tt
 -- a first step that is refused
 pub first-refused : {A B : Type 0} (first : CheckStep A) (next : A → CheckStep B) (files : Files) (fault : CheckFault) → Refuses first files fault
     → Refuses (λ failed held. and_then (first failed held) (λ a. next a failed held)) files fault
-first-refused first next files fault h = unless-as _ _ (λ e. ap (λ r. and_then r (λ a. next a (failed_read fault) files)) e) fault h
+first-refused first next files fault h =
+    unless-as (first (failed_read fault) files ≡ Err fault) (and_then (first (failed_read fault) files) (λ a. next a (failed_read fault) files) ≡ Err fault)
+    (λ e. ap (λ r. and_then r (λ a. next a (failed_read fault) files)) e) fault h
 
 -- a later read that fails doesn't change what a step gave
 pub given-still : {A : Type 0} (step : CheckStep A) (files : Files) (a : A) (N : FileName → Type 0) → ((name : FileName) → N name → step (Some name) files ≡ step None files)
@@ -79,7 +81,9 @@ given-still step files a N other (BadTable f) h e = e
 -- a step that was made, and then one that is refused
 pub next-refused : {A B : Type 0} (first : CheckStep A) (next : A → CheckStep B) (a : A) (files : Files) (fault : CheckFault) → first (failed_read fault) files ≡ Ok a
     → Refuses (next a) files fault → Refuses (λ failed held. and_then (first failed held) (λ a. next a failed held)) files fault
-next-refused first next a files fault e h = unless-as _ _ (λ r. ap (λ w. and_then w (λ a. next a (failed_read fault) files)) e ∙ r) fault h
+next-refused first next a files fault e h =
+    unless-as (next a (failed_read fault) files ≡ Err fault) (and_then (first (failed_read fault) files) (λ a. next a (failed_read fault) files) ≡ Err fault)
+    (λ r. ap (λ w. and_then w (λ a. next a (failed_read fault) files)) e ∙ r) fault h
 
 -- ---- one file
 

@@ -1,8 +1,8 @@
 //! What is wrong with a certificate or with a balanced table, in words: the file, the line, the variant's name in lower case
 //! with dashes, and then what it carries.
 
-ghost use Rattle.std.specs.Prelude.{◌≡◌, ◌++◌, OnOk};
-ghost use Rattle.sut_text.specs.Text.{spaced};
+ghost use Rattle.std.specs.Prelude.{◌≡◌, ◌++◌, ◌∷◌, [], OnOk, codes};
+ghost use Rattle.sut_text.specs.Text.{spaced, whole_text};
 ghost use Rattle.sut_check_status.specs.CheckFaultWords.{certificate_text, certificate_words, name_words, table_text, table_words};
 
 use no_memory::NoMemory;
@@ -48,6 +48,20 @@ pub fn put_certificate_cause(out: &mut Vec<u8>, cause: CertCause) -> Result<(), 
     }
 }
 
+// The value that is printed for a total, and the sum of its cells.
+fn put_wrong_total(out: &mut Vec<u8>, printed: i128, sum: i128) -> Result<(), NoMemory>
+    ensures { OnOk result (out.new.items ≡ out.old.items ++ spaced (codes "wrong-total" ∷ whole_text printed ∷ whole_text sum ∷ [])) }
+{
+    put_words(
+        out,
+        &[
+            Word::Text(b"wrong-total"),
+            Word::Whole(printed),
+            Word::Whole(sum),
+        ],
+    )
+}
+
 /// A fault of a balanced table without its line, each word behind a space.
 pub fn put_table_cause(out: &mut Vec<u8>, cause: BalancedCause) -> Result<(), NoMemory>
     ensures { OnOk result (out.new.items ≡ out.old.items ++ spaced (table_words cause)) }
@@ -59,14 +73,7 @@ pub fn put_table_cause(out: &mut Vec<u8>, cause: BalancedCause) -> Result<(), No
         BalancedCause::WrongTarget => put_words(out, &[Word::Text(b"wrong-target")]),
         BalancedCause::NotNumber => put_words(out, &[Word::Text(b"not-number")]),
         BalancedCause::OutOfRange => put_words(out, &[Word::Text(b"out-of-range")]),
-        BalancedCause::WrongTotal { printed, sum } => put_words(
-            out,
-            &[
-                Word::Text(b"wrong-total"),
-                Word::Whole(printed),
-                Word::Whole(sum),
-            ],
-        ),
+        BalancedCause::WrongTotal { printed, sum } => put_wrong_total(out, printed, sum),
         BalancedCause::Short => put_words(out, &[Word::Text(b"short")]),
         BalancedCause::NoMemory => put_words(out, &[Word::Text(b"no-memory")]),
     }
