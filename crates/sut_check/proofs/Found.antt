@@ -1,5 +1,5 @@
 -- What the verifier says of a claim.
-use Rattle.std.proofs.Common.{◌≡◌, ◌∙◌, ℕ, ℤ, List, [], Option, Some, None, refl, sym, ap}
+use Rattle.std.proofs.Common.{◌≡◌, ◌∙◌, ℕ, ℤ, List, Option, Some, None, refl, sym}
 use Rattle.std.specs.Prelude.{◌↔◌}
 use Rattle.sut_text.specs.Text.{printed_text}
 use Rattle.sut_measures.specs.declared.accounts.Account.{Account}
@@ -63,22 +63,13 @@ found-least p t ps first shown least lines is =
 pub refused-table : (p : ProblemFacts) (t : TableFacts) (ps : List (Account × ℤ)) (r : Reason) → verdict.Refused r ≡ verdict_on p t ps → verdict_of p (answer.Balanced t ps) ≡ verdict.Refused r
 refused-table p t ps r first = on-table p t ps (verdict.Refused r) first
 
--- the lines of a verdict that there is no table
-abbrev lines_of : Verdict → List ℕ
-lines_of verdict.Least = []
-lines_of (verdict.NoTable a b) = printed_text (no_table_words a b)
-lines_of (verdict.Refused r) = []
-
-same-lines : (a b enter leave : ℤ) → verdict.NoTable a b ≡ verdict.NoTable enter leave → printed_text (no_table_words a b) ≡ printed_text (no_table_words enter leave)
-same-lines a b enter leave e = ap lines_of e
-
 pub found-no-table : (p : ProblemFacts) (set : List Account) (a b : ℤ) → verdict.NoTable a b ≡ verdict_on_cut p set → (verdict.NoTable a b ≡ verdict.NoTable (entering p set) (leaving p set)) ↔ Contradicts p set
     → (verdict.NoTable a b ≡ verdict.NoTable (entering p set) (leaving p set) → IsImpossible p)
-    → (lines : List ℕ) → lines ≡ printed_text (no_table_words a b) → FindsNoTable p (answer.Infeasible set) × (lines ≡ check_text p (answer.Infeasible set))
+    → (lines : List ℕ) → lines ≡ printed_text (no_table_words (entering p set) (leaving p set)) → FindsNoTable p (answer.Infeasible set) × (lines ≡ check_text p (answer.Infeasible set))
 found-no-table p set a b first shown impossible lines is =
     let same : verdict.NoTable a b ≡ verdict.NoTable (entering p set) (leaving p set) = sums-are p set a b first in
     (record { set = set; claimed = refl; contradicts = shown.0 same; impossible = impossible same; accepted = on-cut p set (verdict.NoTable a b) first ∙ same },
-     is ∙ same-lines a b (entering p set) (leaving p set) same ∙ sym (no-table-lines p set))
+     is ∙ sym (no-table-lines p set))
 
 pub refused-cut : (p : ProblemFacts) (set : List Account) (r : Reason) → verdict.Refused r ≡ verdict_on_cut p set → verdict_of p (answer.Infeasible set) ≡ verdict.Refused r
 refused-cut p set r first = on-cut p set (verdict.Refused r) first

@@ -137,9 +137,9 @@ module _ (p : ProblemFacts) where
       (λ files r. first-refused (table_in p) (λ t failed told. Ok (answer.Balanced t ps)) files fault r) held h
 
   -- a cut needs no table
-  pub cut-there : (held : Option Files) (set : List Account) → IfSome held (λ files. answer_by p (certificate.Cut set) None files ≡ Ok (answer.Infeasible set))
-  cut-there None set = tt
-  cut-there (Some files) set = refl
+  pub cut-there : (held : Option Files) (c : Certificate) (set : List Account) → c ≡ certificate.Cut set → IfSome held (λ files. answer_by p c None files ≡ Ok (answer.Infeasible set))
+  cut-there None c set e = tt
+  cut-there (Some files) c set e = ap (λ c. answer_by p c None files) e
 
   given : (files : Files) (c : Certificate) (a : Answer) → certificate_in p None files ≡ Ok c → answer_by p c None files ≡ Ok a → answer_in p None files ≡ Ok a
   unfolding answer_in

@@ -48,7 +48,7 @@ fn judge_cut(alloc: Global, p: &Problem, s: &AccountSet) -> Result<Judged, NoMem
     ensures { IfOk result (IsJudged p.now (Answer.Infeasible s.now)) }
 {
     match verify_cut(p, s) {
-        Verdict::NoTable { entering, leaving } => match no_table_text(alloc, entering, leaving) {
+        Verdict::NoTable { .. } => match no_table_text(alloc, p, s) {
             Ok(lines) => Ok(Judged::NoTable(lines)),
             Err(_) => Err(NoMemory),
         },

@@ -4,10 +4,12 @@ ghost use Rattle.std.specs.Prelude.{◌≡◌, ◌<◌, ◌*◌, ◌^◌, IfOk, 
 ghost use Rattle.sut_text.specs.Text.{printed_text};
 ghost use Rattle.sut_text.specs.Fields.{field_bytes};
 ghost use Rattle.sut_tables.specs.Costs.{IsAdmissible, cost};
+ghost use Rattle.sut_cert.specs.Certificates as certificate;
 ghost use Rattle.sut_check.specs.Findings.{least_words, no_table_words};
 
 use no_memory::NoMemory;
 use std::alloc::Global;
+use sut_cert::{AccountSet, entering, leaving};
 use sut_tables::{Problem, Table, cost};
 use sut_text::fields::{Field, put_words};
 use sut_text::{put_byte, put_bytes};
@@ -43,16 +45,16 @@ pub(crate) fn least_text(alloc: Global, p: &Problem, t: &Table) -> Result<Vec<u8
 /// `no table`, and the two sums: of the lower bounds that enter the set and of the upper bounds that leave it.
 pub(crate) fn no_table_text(
     alloc: Global,
-    entering: i128,
-    leaving: i128,
+    p: &Problem,
+    s: &AccountSet,
 ) -> Result<Vec<u8>, NoMemory>
-    ensures { IfOk result (λ v. v.items ≡ printed_text (no_table_words entering leaving)) }
+    ensures { IfOk result (λ v. v.items ≡ printed_text (no_table_words (certificate.entering p.now s.now) (certificate.leaving p.now s.now))) }
 {
     let mut out = Vec::new(alloc);
     put_bytes(&mut out, b"no table\nentering")?;
-    put_words(&mut out, &[Field::Whole(entering)])?;
+    put_words(&mut out, &[Field::Whole(entering(p, s))])?;
     put_bytes(&mut out, b"\nleaving")?;
-    put_words(&mut out, &[Field::Whole(leaving)])?;
+    put_words(&mut out, &[Field::Whole(leaving(p, s))])?;
     put_byte(&mut out, b'\n')?;
     Ok(out)
 }

@@ -24,24 +24,24 @@ returns-in-Ok-clause-read_fault g c = claim-reads c.in-Ok.claim.input.problem c.
 pub returns-in-Ok-clause-used : goal.returns-in-Ok-clause-used
 returns-in-Ok-clause-used g c e = claim-used c.in-Ok.claim.input.problem c.in-Ok.claim.answer c.check_claim.result c.check_claim.ensures.answers e
 
-pub returns-clause-answers : goal.returns-clause-answers
-returns-clause-answers g c =
+pub returns-in-Err-clause-answers : goal.returns-in-Err-clause-answers
+returns-in-Err-clause-answers g c =
     let P : CheckStatus → Type 0 = λ s. IfSome (g.F.Shelf.files c.args.shelf.now) (λ (files : Files). AnswersCheck c.args.source files s) in
     subst P (sym c.status_of.ensures) (refused-answers-told c.args.source (g.F.Shelf.files c.args.shelf.now) c.in-Err.fault c.in-Err.ensures.err)
 
-pub returns-clause-printed : goal.returns-clause-printed
-returns-clause-printed g c =
+pub returns-in-Err-clause-printed : goal.returns-in-Err-clause-printed
+returns-in-Err-clause-printed g c =
     let L : List ℕ → Type 0 = λ lines. IfSome (g.F.Shelf.files c.args.shelf.now) (λ (files : Files). AreLines c.args.source files lines) in
     let P : CheckStatus → Type 0 = λ s. Told (g.K.Sink.sent c.args.out.now) (g.K.Sink.sent c.args.out.now) (Prints L s) in
     subst P (sym c.status_of.ensures) (refused-prints L c.in-Err.fault (g.K.Sink.sent c.args.out.now))
 
-pub returns-clause-read_fault : goal.returns-clause-read_fault
-returns-clause-read_fault g c =
+pub returns-in-Err-clause-read_fault : goal.returns-in-Err-clause-read_fault
+returns-in-Err-clause-read_fault g c =
     let P : CheckStatus → Type 0 = λ s. IfReadFault s (λ (failed : FileName). Rose (g.F.Shelf.faults c.args.shelf.now) (g.F.Shelf.faults c.read_claim.new.shelf) × (g.F.Shelf.last_failed c.read_claim.new.shelf ≡ Some failed) × Contains (checked_names c.args.source) failed) in
     subst P (sym c.status_of.ensures) (refused-reads (checked_names c.args.source) c.in-Err.fault _ _ _ c.in-Err.ensures.cause)
 
-pub returns-clause-sink_fault : goal.returns-clause-sink_fault
-returns-clause-sink_fault g c e = absurd (subst IsRefusal (sym c.status_of.ensures ∙ e) (is-refusal c.in-Err.fault))
+pub returns-in-Err-clause-sink_fault : goal.returns-in-Err-clause-sink_fault
+returns-in-Err-clause-sink_fault g c e = absurd (subst IsRefusal (sym c.status_of.ensures ∙ e) (is-refusal c.in-Err.fault))
 
-pub returns-clause-used : goal.returns-clause-used
-returns-clause-used g c e = subst IsRefusal (sym c.status_of.ensures ∙ e) (is-refusal c.in-Err.fault)
+pub returns-in-Err-clause-used : goal.returns-in-Err-clause-used
+returns-in-Err-clause-used g c e = subst IsRefusal (sym c.status_of.ensures ∙ e) (is-refusal c.in-Err.fault)

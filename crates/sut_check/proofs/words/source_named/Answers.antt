@@ -1,8 +1,7 @@
-use Rattle.std.proofs.Common.{◌≡◌, ◌∙◌, [], ◌∷◌, None, inl, map, string_bytes, refl, sym, ap, arith}
+use Rattle.std.proofs.Common.{◌≡◌, ◌≤◌, None, length, map, string_bytes, sym, arith}
 use Rattle.std.proofs.lemmas.List.{length-map}
-use Rattle.sut_check.specs.CheckWords.{named}
-use Rattle.sut_check.proofs.Asked.{no-source, one_item}
+use Rattle.sut_check.proofs.Asked.{no-source}
 use Rattle.sut_check.proofs.words.source_named.Goals as goal
 
 pub returns-in_default-clause-named : goal.returns-in_default-clause-named
-returns-in_default-clause-named c = ?
+returns-in_default-clause-named c = sym (no-source (map string_bytes c.args.words.now) (omega (arith, length-map c.args.words.now string_bytes, c.in_default.len_at_least)))
