@@ -22,11 +22,7 @@ pub(crate) fn accepts(
     let status = run(alloc, &words, &mut shelf, &mut out);
     let mut lines = MemorySink::new(alloc, 1000, Vec::new(alloc))?;
     let checked = ends(alloc, &[], &mut shelf, &mut lines)?;
-    Ok(
-        status.code() == code
-            && checked.code() == code
-            && lines.text() == printed.as_bytes(),
-    )
+    Ok(status.code() == code && checked.code() == code && lines.text() == printed.as_bytes())
 }
 
 /// Settings, classes, rows, the number with which run and check end, and the lines of the check.

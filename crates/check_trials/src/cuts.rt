@@ -32,10 +32,30 @@ const ALONE: &str = "kind,a,b,c,target,grade,lower,upper\nsupply,X,,,5,,5,5\n";
 #[test]
 fn sets(rt: HostRuntime) -> Result<(), Fail> {
     let cases = [
-        (NARROW, CUT, "sutcheck: ok\n", "no table\nentering 95\nleaving 90\n"),
-        (ALONE, "account,a,b\nused,X,\n", "sutcheck: ok\n", "no table\nentering 5\nleaving 0\n"),
-        (NARROW, "account,a,b\n", "sutcheck: refused: no-gap 0 0\n", ""),
-        (GAP, "account,a,b\nused,X,\n", "sutcheck: refused: crosses supply 1\n", ""),
+        (
+            NARROW,
+            CUT,
+            "sutcheck: ok\n",
+            "no table\nentering 95\nleaving 90\n",
+        ),
+        (
+            ALONE,
+            "account,a,b\nused,X,\n",
+            "sutcheck: ok\n",
+            "no table\nentering 5\nleaving 0\n",
+        ),
+        (
+            NARROW,
+            "account,a,b\n",
+            "sutcheck: refused: no-gap 0 0\n",
+            "",
+        ),
+        (
+            GAP,
+            "account,a,b\nused,X,\n",
+            "sutcheck: refused: crosses supply 1\n",
+            "",
+        ),
         // a set of all accounts of a year that has tables
         (GAP, CUT, "sutcheck: refused: no-gap 0 1000000000000\n", ""),
     ];
@@ -50,9 +70,24 @@ fn sets(rt: HostRuntime) -> Result<(), Fail> {
 fn forged_sets(rt: HostRuntime) -> Result<(), Fail> {
     let set = FileName::CertificateCsv;
     let changes: [Change; 3] = [
-        (set, "final,F,\n", "", "sutcheck: refused: crosses purchase 1 final 1\n"),
-        (set, "adding,A,\n", "supplied,X,\n", "sutcheck: certificate.csv line 3: wrong-account\n"),
-        (set, "spending,,\n", "imports,,\n", "sutcheck: certificate.csv line 8: wrong-account\n"),
+        (
+            set,
+            "final,F,\n",
+            "",
+            "sutcheck: refused: crosses purchase 1 final 1\n",
+        ),
+        (
+            set,
+            "adding,A,\n",
+            "supplied,X,\n",
+            "sutcheck: certificate.csv line 3: wrong-account\n",
+        ),
+        (
+            set,
+            "spending,,\n",
+            "imports,,\n",
+            "sutcheck: certificate.csv line 8: wrong-account\n",
+        ),
     ];
     check_changes(&rt, rt.alloc(), &FILES, &changes)
 }

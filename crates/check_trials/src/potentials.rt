@@ -47,16 +47,66 @@ const CERTIFICATE: FileName = FileName::CertificateCsv;
 #[test]
 fn one_more_at_each_account(rt: HostRuntime) -> Result<(), Fail> {
     let changes: [Change; 10] = [
-        (CERTIFICATE, "supplied,X,,4", "supplied,X,,5", "sutcheck: refused: bent supply 1 -1\n"),
-        (CERTIFICATE, "used,X,,4", "used,X,,5", "sutcheck: refused: bent supply 1 1\n"),
-        (CERTIFICATE, "bought,X,F,0", "bought,X,F,1", "sutcheck: refused: bent purchase 1 final 1 -1\n"),
-        (CERTIFICATE, "adding,A,,0", "adding,A,,1", "sutcheck: refused: up added 1 1 0 1\n"),
-        (CERTIFICATE, "industry,A,,0", "industry,A,,1", "sutcheck: refused: bent output 1 -1\n"),
-        (CERTIFICATE, "making,A,,0", "making,A,,1", "sutcheck: refused: bent output 1 1\n"),
-        (CERTIFICATE, "final,F,,0", "final,F,,1", "sutcheck: refused: bent purchase 1 final 1 1\n"),
-        (CERTIFICATE, "item,V,,0", "item,V,,1", "sutcheck: refused: down added 1 1 0 -1\n"),
-        (CERTIFICATE, "spending,,,0", "spending,,,1", "sutcheck: refused: bent final_total 1 1\n"),
-        (CERTIFICATE, "income,,,0", "income,,,1", "sutcheck: refused: bent item_total 1 -1\n"),
+        (
+            CERTIFICATE,
+            "supplied,X,,4",
+            "supplied,X,,5",
+            "sutcheck: refused: bent supply 1 -1\n",
+        ),
+        (
+            CERTIFICATE,
+            "used,X,,4",
+            "used,X,,5",
+            "sutcheck: refused: bent supply 1 1\n",
+        ),
+        (
+            CERTIFICATE,
+            "bought,X,F,0",
+            "bought,X,F,1",
+            "sutcheck: refused: bent purchase 1 final 1 -1\n",
+        ),
+        (
+            CERTIFICATE,
+            "adding,A,,0",
+            "adding,A,,1",
+            "sutcheck: refused: up added 1 1 0 1\n",
+        ),
+        (
+            CERTIFICATE,
+            "industry,A,,0",
+            "industry,A,,1",
+            "sutcheck: refused: bent output 1 -1\n",
+        ),
+        (
+            CERTIFICATE,
+            "making,A,,0",
+            "making,A,,1",
+            "sutcheck: refused: bent output 1 1\n",
+        ),
+        (
+            CERTIFICATE,
+            "final,F,,0",
+            "final,F,,1",
+            "sutcheck: refused: bent purchase 1 final 1 1\n",
+        ),
+        (
+            CERTIFICATE,
+            "item,V,,0",
+            "item,V,,1",
+            "sutcheck: refused: down added 1 1 0 -1\n",
+        ),
+        (
+            CERTIFICATE,
+            "spending,,,0",
+            "spending,,,1",
+            "sutcheck: refused: bent final_total 1 1\n",
+        ),
+        (
+            CERTIFICATE,
+            "income,,,0",
+            "income,,,1",
+            "sutcheck: refused: bent item_total 1 -1\n",
+        ),
     ];
     check_changes(&rt, rt.alloc(), &WRITTEN, &changes)
 }
@@ -64,8 +114,18 @@ fn one_more_at_each_account(rt: HostRuntime) -> Result<(), Fail> {
 #[test]
 fn refused(rt: HostRuntime) -> Result<(), Fail> {
     let changes: [Change; 3] = [
-        (CERTIFICATE, "supplied,X,,4", "supplied,X,,104", "sutcheck: refused: up make 1 1 5 104\n"),
-        (CERTIFICATE, "supplied,X,,4", "supplied,X,,2", "sutcheck: refused: down make 1 1 3 2\n"),
+        (
+            CERTIFICATE,
+            "supplied,X,,4",
+            "supplied,X,,104",
+            "sutcheck: refused: up make 1 1 5 104\n",
+        ),
+        (
+            CERTIFICATE,
+            "supplied,X,,4",
+            "supplied,X,,2",
+            "sutcheck: refused: down make 1 1 3 2\n",
+        ),
         (
             FileName::SourceCsv,
             "make,X,A,,100,,,",
@@ -99,18 +159,48 @@ fn other_tables(rt: HostRuntime) -> Result<(), Fail> {
 #[test]
 fn forged_certificates(rt: HostRuntime) -> Result<(), Fail> {
     let changes: [Change; 7] = [
-        (CERTIFICATE, "spending,,,0\n", "", "sutcheck: certificate.csv line 10: wrong-account\n"),
-        (CERTIFICATE, "income,,,0\n", "", "sutcheck: certificate.csv line 11: short\n"),
-        (CERTIFICATE, "supplied,X,,4", "supplied,X,,04", "sutcheck: certificate.csv line 2: not-number\n"),
+        (
+            CERTIFICATE,
+            "spending,,,0\n",
+            "",
+            "sutcheck: certificate.csv line 10: wrong-account\n",
+        ),
+        (
+            CERTIFICATE,
+            "income,,,0\n",
+            "",
+            "sutcheck: certificate.csv line 11: short\n",
+        ),
+        (
+            CERTIFICATE,
+            "supplied,X,,4",
+            "supplied,X,,04",
+            "sutcheck: certificate.csv line 2: not-number\n",
+        ),
         (
             CERTIFICATE,
             "supplied,X,,4",
             "supplied,X,,1000000000000000000000001",
             "sutcheck: certificate.csv line 2: out-of-range\n",
         ),
-        (CERTIFICATE, "account,a,b,potential", "account,a", "sutcheck: certificate.csv line 1: header\n"),
-        (CERTIFICATE, "used,X,,4", "used,Y,,4", "sutcheck: certificate.csv line 3: bad-name unknown-code a\n"),
-        (CERTIFICATE, "used,X,,4", "used,X,4", "sutcheck: certificate.csv line 3: csv\n"),
+        (
+            CERTIFICATE,
+            "account,a,b,potential",
+            "account,a",
+            "sutcheck: certificate.csv line 1: header\n",
+        ),
+        (
+            CERTIFICATE,
+            "used,X,,4",
+            "used,Y,,4",
+            "sutcheck: certificate.csv line 3: bad-name unknown-code a\n",
+        ),
+        (
+            CERTIFICATE,
+            "used,X,,4",
+            "used,X,4",
+            "sutcheck: certificate.csv line 3: csv\n",
+        ),
     ];
     check_changes(&rt, rt.alloc(), &WRITTEN, &changes)
 }
@@ -119,11 +209,36 @@ fn forged_certificates(rt: HostRuntime) -> Result<(), Fail> {
 fn forged_tables(rt: HostRuntime) -> Result<(), Fail> {
     let table = FileName::BalancedCsv;
     let changes: [Change; 5] = [
-        (table, "supply,X,,,,102", "supply,X,,,,103", "sutcheck: balanced.csv line 6: wrong-total 103 102\n"),
-        (table, "make,X,A,,100,102", "make,X,A,,100,103", "sutcheck: balanced.csv line 6: wrong-total 102 103\n"),
-        (table, "make,X,A,,100,102", "make,X,A,,101,102", "sutcheck: balanced.csv line 2: wrong-target\n"),
-        (table, "gdp,,,,,102\n", "", "sutcheck: balanced.csv line 11: short\n"),
-        (table, "output,A,,,,102\n", "", "sutcheck: balanced.csv line 7: wrong-measure\n"),
+        (
+            table,
+            "supply,X,,,,102",
+            "supply,X,,,,103",
+            "sutcheck: balanced.csv line 6: wrong-total 103 102\n",
+        ),
+        (
+            table,
+            "make,X,A,,100,102",
+            "make,X,A,,100,103",
+            "sutcheck: balanced.csv line 6: wrong-total 102 103\n",
+        ),
+        (
+            table,
+            "make,X,A,,100,102",
+            "make,X,A,,101,102",
+            "sutcheck: balanced.csv line 2: wrong-target\n",
+        ),
+        (
+            table,
+            "gdp,,,,,102\n",
+            "",
+            "sutcheck: balanced.csv line 11: short\n",
+        ),
+        (
+            table,
+            "output,A,,,,102\n",
+            "",
+            "sutcheck: balanced.csv line 7: wrong-measure\n",
+        ),
     ];
     check_changes(&rt, rt.alloc(), &WRITTEN, &changes)
 }
@@ -131,11 +246,31 @@ fn forged_tables(rt: HostRuntime) -> Result<(), Fail> {
 #[test]
 fn faults_of_the_year(rt: HostRuntime) -> Result<(), Fail> {
     let changes: [Change; 4] = [
-        (FileName::SettingsToml, "scheme", "schema", "sutcheck: settings.toml: unknown-key 1\n"),
-        (FileName::ClassesCsv, "axis,code", "axis", "sutcheck: classes.csv: header\n"),
-        (FileName::SourceCsv, "make,X,A,,100,,,", "make,X,B,,100,,,", "sutcheck: source.csv line 2: unknown-code b\n"),
+        (
+            FileName::SettingsToml,
+            "scheme",
+            "schema",
+            "sutcheck: settings.toml: unknown-key 1\n",
+        ),
+        (
+            FileName::ClassesCsv,
+            "axis,code",
+            "axis",
+            "sutcheck: classes.csv: header\n",
+        ),
+        (
+            FileName::SourceCsv,
+            "make,X,A,,100,,,",
+            "make,X,B,,100,,,",
+            "sutcheck: source.csv line 2: unknown-code b\n",
+        ),
         // a certificate of other accounts
-        (FileName::SourceCsv, "added,V,A,,,,0,1000\n", "", "sutcheck: certificate.csv line 5: wrong-account\n"),
+        (
+            FileName::SourceCsv,
+            "added,V,A,,,,0,1000\n",
+            "",
+            "sutcheck: certificate.csv line 5: wrong-account\n",
+        ),
     ];
     check_changes(&rt, rt.alloc(), &WRITTEN, &changes)
 }

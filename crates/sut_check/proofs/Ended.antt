@@ -1,6 +1,6 @@
 -- How a check ends.
-use Rattle.std.proofs.Common.{◌≡◌, ◌⊎◌, ◌∙◌, ◌++◌, ℕ, List, [], Option, Some, None, Result, Ok, Err, Contains, IfSome, inl, inr, refl, sym, ap, subst}
-use Rattle.std.specs.Prelude.{IfOk, IsOkAnd}
+use Rattle.std.proofs.Common.{◌≡◌, ◌⊎◌, ◌∙◌, ◌++◌, ℕ, List, [], Option, Some, None, Ok, Contains, IfSome, inl, inr, refl, sym, subst}
+use Rattle.std.specs.Prelude.{IsOkAnd}
 use Rattle.sut_outside.specs.declared.names.FileName.{FileName}
 use Rattle.sut_outside.specs.Files.{Files, Told}
 use Rattle.sut_outside.specs.Causes.{Rose}
@@ -15,7 +15,7 @@ use Rattle.sut_check_status.specs.declared.statuses.CheckStatus.TheVariants.{Lea
 use Rattle.sut_check_status.specs.declared.statuses.CheckStatus.TheVariants as status
 use Rattle.sut_check.specs.declared.faults.CheckFault.{CheckFault}
 use Rattle.sut_check.specs.declared.faults.CheckFault.TheVariants as fault
-use Rattle.sut_check.specs.Statuses.{status_for, status_of}
+use Rattle.sut_check.specs.Statuses.{status_of}
 use Rattle.sut_check.specs.Claims.{FailsIn, Refuses, claim_in}
 use Rattle.sut_check.specs.Findings.{FindsLeast, FindsNoTable, check_text, verdict_of}
 use Rattle.sut_check.specs.declared.judging.Judged.{Judged}

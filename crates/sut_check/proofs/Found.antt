@@ -67,9 +67,10 @@ pub found-no-table : (p : ProblemFacts) (set : List Account) (a b : ℤ) → ver
     → (verdict.NoTable a b ≡ verdict.NoTable (entering p set) (leaving p set) → IsImpossible p)
     → (lines : List ℕ) → lines ≡ printed_text (no_table_words (entering p set) (leaving p set)) → FindsNoTable p (answer.Infeasible set) × (lines ≡ check_text p (answer.Infeasible set))
 found-no-table p set a b first shown impossible lines is =
-    let same : verdict.NoTable a b ≡ verdict.NoTable (entering p set) (leaving p set) = sums-are p set a b first in
-    (record { set = set; claimed = refl; contradicts = shown.0 same; impossible = impossible same; accepted = on-cut p set (verdict.NoTable a b) first ∙ same },
-     is ∙ sym (no-table-lines p set))
+    let same : verdict.NoTable a b ≡ verdict.NoTable (entering p set) (leaving p set) = sums-are p set a b first in (
+      record { set = set; claimed = refl; contradicts = shown.0 same; impossible = impossible same; accepted = on-cut p set (verdict.NoTable a b) first ∙ same },
+      is ∙ sym (no-table-lines p set),
+    )
 
 pub refused-cut : (p : ProblemFacts) (set : List Account) (r : Reason) → verdict.Refused r ≡ verdict_on_cut p set → verdict_of p (answer.Infeasible set) ≡ verdict.Refused r
 refused-cut p set r first = on-cut p set (verdict.Refused r) first

@@ -1,5 +1,5 @@
 -- The files of an answer, read.
-use Rattle.std.proofs.Common.{◌≡◌, ◌≢◌, ◌∙◌, ℕ, ℤ, zero, suc, List, [], ◌∷◌, Option, Some, None, Result, Ok, Err, Contains, IfSome, ap, sym, refl, subst, arith}
+use Rattle.std.proofs.Common.{◌≡◌, ◌≢◌, ◌∙◌, ℕ, ℤ, zero, suc, List, [], ◌∷◌, Option, Some, None, Ok, Err, Contains, IfSome, ap, refl, subst, arith}
 use Rattle.sut_outside.specs.declared.names.FileName.{FileName}
 use Rattle.sut_outside.specs.declared.names.FileName.TheVariants.{BalancedCsv, CertificateCsv}
 use Rattle.sut_outside.specs.Files.{Files}
@@ -28,7 +28,7 @@ use Rattle.sut_check.specs.declared.faults.CheckFault.{CheckFault}
 use Rattle.sut_check.specs.declared.faults.CheckFault.TheVariants.{Input, BadCertificate, BadTable}
 use Rattle.sut_check.specs.Statuses.{certificate_fault, certificate_unless_no_memory, table_fault, table_unless_no_memory}
 use Rattle.sut_check.specs.CheckWords.{answer_names}
-use Rattle.sut_check.specs.Claims.{IfReadFailed, Refuses, answer_by, answer_in, certificate_in, failed_read, table_in}
+use Rattle.sut_check.specs.Claims.{IfReadFailed, Refuses, answer_by, answer_in, certificate_in, table_in}
 use Rattle.sut_check.proofs.CheckSteps.{first-refused, given-still, if-both, if-told, next-refused, not-read, was-read}
 
 -- ---- the certificate

@@ -1,7 +1,7 @@
 -- All files of a check, read.
-use Rattle.std.proofs.Common.{◌≡◌, ◌⊎◌, ◌∙◌, ℕ, zero, suc, false, List, [], ◌∷◌, Option, Some, None, Result, Ok, Err, Contains, IfSome, inl, inr, ap, sym, refl, subst, arith}
+use Rattle.std.proofs.Common.{◌≡◌, ◌∙◌, ℕ, zero, suc, List, Option, Some, None, Ok, Contains, IfSome, inl, inr, ap, sym, refl, subst, arith}
 use Rattle.sut_outside.specs.declared.names.FileName.{FileName}
-use Rattle.sut_outside.specs.declared.names.FileName.TheVariants.{SettingsToml, ClassesCsv, SourceCsv, EditedCsv, BalancedCsv, CertificateCsv}
+use Rattle.sut_outside.specs.declared.names.FileName.TheVariants.{SourceCsv, EditedCsv, BalancedCsv, CertificateCsv}
 use Rattle.sut_outside.specs.Files.{Files}
 use Rattle.sut_outside.specs.Causes.{Rose}
 use Rattle.sut_records.specs.FirstFault.{and_then, fault_as}
@@ -16,8 +16,8 @@ use Rattle.sut_input.specs.Inputs.{IsSource, problem_in, problem_names}
 use Rattle.sut_check.specs.declared.faults.CheckFault.{CheckFault}
 use Rattle.sut_check.specs.declared.faults.CheckFault.TheVariants.{Input}
 use Rattle.sut_check.specs.CheckWords.{IsCheckedSource, answer_names, checked_names}
-use Rattle.sut_check.specs.Claims.{FailsIn, IfReadFailed, Refuses, answer_in, claim_in, failed_read, given_in}
-use Rattle.sut_check.proofs.CheckSteps.{fails-later, first-refused, given-still, if-both, if-failed, if-told, next-refused}
+use Rattle.sut_check.specs.Claims.{FailsIn, IfReadFailed, Refuses, answer_in, claim_in, given_in}
+use Rattle.sut_check.proofs.CheckSteps.{first-refused, given-still, if-failed, next-refused}
 
 -- the source of a check is no other file of it
 pub source-apart : (source : FileName) → IsCheckedSource source → IsSource source

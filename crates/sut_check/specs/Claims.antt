@@ -16,7 +16,6 @@ use Rattle.sut_cert.specs.declared.certificates.Certificate.{Certificate}
 use Rattle.sut_cert.specs.declared.certificates.Certificate.TheVariants as certificate
 use Rattle.sut_readback.specs.BalancedFile.{balanced_of}
 use Rattle.sut_input.specs.Inputs.{problem_in, read_bytes}
-use Rattle.sut_input.specs.declared.faults.InputFault.{InputFault}
 use Rattle.sut_input.specs.declared.faults.InputFault.TheVariants as input
 use Rattle.sut_check.specs.declared.faults.CheckFault.{CheckFault}
 use Rattle.sut_check.specs.declared.faults.CheckFault.TheVariants.{Input, BadCertificate, BadTable}

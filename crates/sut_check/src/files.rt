@@ -36,11 +36,7 @@ fn read_certificate_file<F: Shelf>(
     }
 }
 
-fn read_table_file<F: Shelf>(
-    alloc: Global,
-    shelf: &mut F,
-    p: &Problem,
-) -> Result<Table, CheckFault>
+fn read_table_file<F: Shelf>(alloc: Global, shelf: &mut F, p: &Problem) -> Result<Table, CheckFault>
     ensures kept { Told (F.files shelf.old) (F.files shelf.new) SameFiles }
     ensures ok { IfOk result (λ t. IfSome (F.files shelf.old) (λ files. table_in p.now None files ≡ Ok t)) }
     ensures belongs { IfOk result (IsTableOf p.now) }

@@ -24,12 +24,7 @@ pub(crate) enum Judged {
 }
 
 // Judges potentials and their table.
-fn judge_table(
-    alloc: Global,
-    p: &Problem,
-    t: &Table,
-    c: &Potentials,
-) -> Result<Judged, NoMemory>
+fn judge_table(alloc: Global, p: &Problem, t: &Table, c: &Potentials) -> Result<Judged, NoMemory>
     requires { IsTableOf p.now t.now }
     ensures { IfOk result (IsJudged p.now (Answer.Balanced t.now c.now)) }
 {

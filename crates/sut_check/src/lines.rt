@@ -43,11 +43,7 @@ pub(crate) fn least_text(alloc: Global, p: &Problem, t: &Table) -> Result<Vec<u8
 }
 
 /// `no table`, and the two sums: of the lower bounds that enter the set and of the upper bounds that leave it.
-pub(crate) fn no_table_text(
-    alloc: Global,
-    p: &Problem,
-    s: &AccountSet,
-) -> Result<Vec<u8>, NoMemory>
+pub(crate) fn no_table_text(alloc: Global, p: &Problem, s: &AccountSet) -> Result<Vec<u8>, NoMemory>
     ensures { IfOk result (λ v. v.items ≡ printed_text (no_table_words (certificate.entering p.now s.now) (certificate.leaving p.now s.now))) }
 {
     let mut out = Vec::new(alloc);

@@ -1,4 +1,4 @@
-use Rattle.std.proofs.Common.{◌≡◌, ◌⊎◌, ◌∙◌, ℕ, List, None, Some, IfSome, Contains, map, string_bytes, refl, sym}
+use Rattle.std.proofs.Common.{◌≡◌, ◌⊎◌, ℕ, List, None, Some, IfSome, Contains, map, string_bytes, refl, sym}
 use Rattle.std.specs.Prelude.{IfOk}
 use Rattle.sut_outside.specs.declared.names.FileName.{FileName}
 use Rattle.sut_outside.specs.Files.{Files}
@@ -8,7 +8,7 @@ use Rattle.sut_check.specs.CheckWords.{checked_names, checked_source}
 use Rattle.sut_check.specs.Statuses.{status_for}
 use Rattle.sut_check.specs.Claims.{claim_in}
 use Rattle.sut_check.specs.Findings.{verdict_of}
-use Rattle.sut_check.specs.CheckEnds.{AnswersCheck, AreLines, IfReadFault}
+use Rattle.sut_check.specs.CheckEnds.{AnswersCheck, AreLines}
 use Rattle.sut_check.proofs.Asked.{complete-told, for-none, for-source, is-there, read-as, same-told}
 use Rattle.sut_check.proofs.Ended.{nothing-sent, told-prints-as}
 use Rattle.sut_check.proofs.checks.check_run.Goals as goal
@@ -42,7 +42,7 @@ pub returns-in-Some-clause-complete : goal.returns-in-Some-clause-complete
 returns-in-Some-clause-complete g c =
     for-source (checked_source (map string_bytes c.args.words.now)) c.in-Some.source c.in-Some.ensures.named
     (λ (source : FileName). IfSome (g.F.Shelf.files c.args.shelf.now) (λ (files : Files). ¬ Rose (g.F.Shelf.faults c.args.shelf.now) (g.F.Shelf.faults c.check_source.new.shelf) → ¬ Rose (g.K.Sink.faults c.args.out.now) (g.K.Sink.faults c.check_source.new.out)
-      → IfOk (claim_in source None files) (λ claim. (c.check_source.result ≡ NoMemory) ⊎ (c.check_source.result ≡ status_for (verdict_of claim.0 claim.1)))))
+    → IfOk (claim_in source None files) (λ claim. (c.check_source.result ≡ NoMemory) ⊎ (c.check_source.result ≡ status_for (verdict_of claim.0 claim.1)))))
     (complete-told c.in-Some.source (g.F.Shelf.files c.args.shelf.now) c.check_source.result _ _ _ _ c.check_source.ensures.answers c.check_source.ensures.read_fault c.check_source.ensures.sink_fault)
 
 pub returns-in-None-clause-usage : goal.returns-in-None-clause-usage
@@ -62,4 +62,4 @@ pub returns-in-None-clause-complete : goal.returns-in-None-clause-complete
 returns-in-None-clause-complete g c =
     for-none (checked_source (map string_bytes c.args.words.now)) c.in-None.ensures.named
     (λ (source : FileName). IfSome (g.F.Shelf.files c.args.shelf.now) (λ (files : Files). ¬ Rose (g.F.Shelf.faults c.args.shelf.now) (g.F.Shelf.faults c.args.shelf.now) → ¬ Rose (g.K.Sink.faults c.args.out.now) (g.K.Sink.faults c.args.out.now)
-      → IfOk (claim_in source None files) (λ claim. (Usage ≡ NoMemory) ⊎ (Usage ≡ status_for (verdict_of claim.0 claim.1)))))
+    → IfOk (claim_in source None files) (λ claim. (Usage ≡ NoMemory) ⊎ (Usage ≡ status_for (verdict_of claim.0 claim.1)))))

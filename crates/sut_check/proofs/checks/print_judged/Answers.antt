@@ -1,4 +1,3 @@
-use Rattle.std.proofs.Common.{inl, inr, refl}
 use Rattle.sut_check.proofs.Ended.{nothing-sent}
 use Rattle.sut_check.proofs.checks.print_judged.Goals as goal
 

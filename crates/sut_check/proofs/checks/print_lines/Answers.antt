@@ -1,4 +1,3 @@
-use Rattle.std.proofs.Common.{inl, inr, refl}
 use Rattle.sut_check.proofs.Ended.{told-all, told-part}
 use Rattle.sut_check.proofs.checks.print_lines.Goals as goal
 

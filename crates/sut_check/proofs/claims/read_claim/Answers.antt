@@ -1,4 +1,4 @@
-use Rattle.std.proofs.Common.{◌≡◌, ◌≤◌, None, Ok, arith}
+use Rattle.std.proofs.Common.{◌≡◌, None, Ok}
 use Rattle.sut_outside.specs.Files.{Files}
 use Rattle.sut_input.proofs.StepLemmas.{kept-twice, told-back}
 use Rattle.sut_check.specs.CheckWords.{answer_names, checked_names}

@@ -1,4 +1,4 @@
-use Rattle.std.proofs.Common.{◌≡◌, ◌≤◌, ◌∷◌, [], None, Ok, IfSome, arith}
+use Rattle.std.proofs.Common.{◌≡◌, ◌∷◌, [], None, Ok, IfSome, arith}
 use Rattle.sut_outside.specs.declared.names.FileName.TheVariants.{BalancedCsv, CertificateCsv}
 use Rattle.sut_outside.specs.Files.{Files}
 use Rattle.sut_input.proofs.StepLemmas.{kept-twice, told-back}
@@ -30,7 +30,7 @@ returns-in-Ok-clause-err g c =
     (FailsIn (BalancedCsv ∷ []) (g.F.Shelf.faults c.read_certificate_file.new.shelf) (g.F.Shelf.faults c.by_certificate.new.shelf) (g.F.Shelf.last_failed c.by_certificate.new.shelf))
     (λ (f : CheckFault). IfSome held (λ (files : Files). Refuses (answer_in c.args.p.now) files f))
     (λ f h cause. answer-refused-next c.args.p.now held c.in-Ok.certificate f (only-names (BalancedCsv ∷ []) _ _ _ f cause) c.in-Ok.ensures.ok
-      (told-back (λ (files : Files). Refuses (answer_by c.args.p.now c.in-Ok.certificate) files f) _ _ c.read_certificate_file.ensures.kept h))
+    (told-back (λ (files : Files). Refuses (answer_by c.args.p.now c.in-Ok.certificate) files f) _ _ c.read_certificate_file.ensures.kept h))
     c.by_certificate.ensures.err c.by_certificate.ensures.cause
 
 pub returns-in-Ok-clause-cause : goal.returns-in-Ok-clause-cause

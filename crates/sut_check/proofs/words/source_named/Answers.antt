@@ -1,4 +1,4 @@
-use Rattle.std.proofs.Common.{◌≡◌, ◌≤◌, None, length, map, string_bytes, sym, arith}
+use Rattle.std.proofs.Common.{map, string_bytes, sym, arith}
 use Rattle.std.proofs.lemmas.List.{length-map}
 use Rattle.sut_check.proofs.Asked.{no-source}
 use Rattle.sut_check.proofs.words.source_named.Goals as goal
