@@ -4,4 +4,6 @@
 #[cfg(test)]
 mod classes;
 #[cfg(test)]
+mod prints;
+#[cfg(test)]
 mod sources;
