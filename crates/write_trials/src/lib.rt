@@ -1,0 +1,5 @@
+//! Tests of the written texts, against texts by hand.
+#![tactic(auto)]
+
+#[cfg(test)]
+mod texts;
