@@ -19,7 +19,7 @@ pub(crate) fn accepts(
     let mut out = MemorySink::new(alloc, 1000, Vec::new(alloc))?;
     let mut words = Vec::new(alloc);
     words.push(String::from_str(alloc, "balance")?)?;
-    let status = run(alloc, &words, &mut shelf, &mut out);
+    let status = run(alloc, &words, &mut shelf, &mut out, Vec::new(alloc));
     let mut lines = MemorySink::new(alloc, 1000, Vec::new(alloc))?;
     let checked = ends(alloc, &[], &mut shelf, &mut lines)?;
     Ok(status.code() == code && checked.code() == code && lines.text() == printed.as_bytes())

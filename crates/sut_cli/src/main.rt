@@ -1,10 +1,18 @@
 //! The program `sut`: runs the command that its words name, over the files of the current folder.
 #![tactic(auto)]
 
+mod help;
+
+use help::help_text;
+use std::alloc::AllocError;
 use std::process::ExitCode;
 use std::{env, io};
 use sut_outside::{ConsoleSink, FolderShelf};
+use sut_review::{AtBound, FarFrom, Reviewer};
 use sut_run::{Status, run};
+
+// The distance from a target that the program reviews, in percent of the target.
+const FAR_PERCENT: u32 = 10;
 
 // The program's words, without its name.
 fn words_of(rt: &HostRuntime) -> io::Result<Vec<String>> {
@@ -15,13 +23,15 @@ fn words_of(rt: &HostRuntime) -> io::Result<Vec<String>> {
     Ok(words)
 }
 
-fn run_words(rt: &HostRuntime, words: &[String]) -> Status {
-    let Ok(folder) = String::from_str(rt.alloc(), ".") else {
-        return Status::NoMemory;
-    };
+// Runs over the current folder and the terminal. Values at a bound and far from their targets are reviewed.
+fn run_words(rt: &HostRuntime, words: &[String]) -> Result<Status, AllocError> {
+    let folder = String::from_str(rt.alloc(), ".")?;
+    let mut reviewers: Vec<Box<dyn Reviewer>> = Vec::new(rt.alloc());
+    reviewers.push(Box::new(rt.alloc(), AtBound::new())?)?;
+    reviewers.push(Box::new(rt.alloc(), FarFrom::new(FAR_PERCENT))?)?;
     let mut shelf = FolderShelf::new(rt, folder);
     let mut out = ConsoleSink::new(rt);
-    run(rt.alloc(), words, &mut shelf, &mut out)
+    Ok(run(rt.alloc(), words, &mut shelf, &mut out, reviewers))
 }
 
 // Prints the status line on standard error.
@@ -35,14 +45,25 @@ fn print_status(rt: &HostRuntime, status: Status) -> io::Result<()> {
     }
 }
 
+// Prints the words that are accepted on standard error.
+fn print_help(rt: &HostRuntime) -> io::Result<()> {
+    let Ok(text) = help_text(rt.alloc()) else {
+        return Ok(());
+    };
+    eprint!(rt; "{text}")
+}
+
 fn main(rt: HostRuntime) -> ExitCode {
     let status = match words_of(&rt) {
-        Ok(words) => run_words(&rt, &words),
+        Ok(words) => run_words(&rt, &words).unwrap_or(Status::NoMemory),
         Err(_) => Status::Usage,
     };
     let code = status.code();
     if code != 0 && code != 3 {
         let _ = print_status(&rt, status);
+    }
+    if status == Status::Usage {
+        let _ = print_help(&rt);
     }
     ExitCode::from(code)
 }

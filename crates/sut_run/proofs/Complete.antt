@@ -3,7 +3,7 @@ use Rattle.std.proofs.Common.{◌≡◌, ◌⊎◌, None, Result, Ok, Err, inl, 
 use Rattle.std.specs.Prelude.{IsOk}
 use Rattle.sut_outside.specs.Files.{Files}
 use Rattle.sut_status.specs.declared.statuses.Status.{Status}
-use Rattle.sut_status.specs.declared.statuses.Status.TheVariants.{Balanced, NoMemory, Usage, Infeasible, BadSettings, BadClasses, BadSource, ReadFault, WriteFault, Missing, SinkFault, TooLong}
+use Rattle.sut_status.specs.declared.statuses.Status.TheVariants.{Balanced, Generated, NoMemory, Usage, Infeasible, BadSettings, BadClasses, BadSource, ReadFault, WriteFault, Missing, SinkFault, TooLong}
 use Rattle.sut_run.specs.declared.commands.Command.{Command}
 use Rattle.sut_run.specs.Inputs.{input_of}
 use Rattle.sut_run.specs.Ends.{AnswersInput, IsDone}
@@ -20,6 +20,7 @@ pub complete_from :
     IfReadFault status (λ _. R) → IfWriteFault status (λ _. R) → (status ≡ SinkFault → K) → IsOk (input_of c None files) →
     ¬ R → ¬ K → (status ≡ NoMemory) ⊎ IsDone status
 complete_from c files R K Balanced says read write sink given no_r no_k = inr tt
+complete_from c files R K Generated says read write sink given no_r no_k = inr tt
 complete_from c files R K Infeasible says read write sink given no_r no_k = inr tt
 complete_from c files R K NoMemory says read write sink given no_r no_k = inl refl
 complete_from c files R K Usage says read write sink given no_r no_k = absurd (not_given _ _ says given)

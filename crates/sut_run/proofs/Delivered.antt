@@ -1,12 +1,11 @@
 -- A delivery after the reading part, and what each answer says.
-use Rattle.std.proofs.Common.{◌≡◌, ◌≤◌, ℕ, ℤ, zero, suc, List, map, length, Option, Some, None, Result, Ok, Err, Contains, IfSome, inl, inr, refl, sym, ap, subst, arith}
+use Rattle.std.proofs.Common.{◌≡◌, ◌≤◌, ◌∙◌, ℕ, ℤ, zero, suc, List, [], ◌∷◌, ◌++◌, map, length, Option, Some, None, Result, Ok, Err, Contains, IfSome, inl, inr, refl, sym, ap, subst, arith}
 use Rattle.std.specs.Prelude.{IsOk}
 use Rattle.sut_outside.specs.declared.names.FileName.{FileName}
-use Rattle.sut_outside.specs.declared.names.FileName.TheVariants.{SourceCsv}
+use Rattle.sut_outside.specs.declared.names.FileName.TheVariants.{SourceCsv, BalancedCsv, SupplyCsv, UseCsv, AccountsCsv, CertificateCsv, ReportJson}
 use Rattle.sut_outside.specs.declared.shelf.TheConstants.{FILE_LIMIT}
 use Rattle.sut_outside.specs.Files.{Files, SameFiles, Told}
 use Rattle.sut_outside.specs.Causes.{Rose}
-use Rattle.sut_outside.specs.Deliveries.{WrittenAll}
 use Rattle.sut_outside.proofs.Told.{same_files, told_as}
 use Rattle.sut_records.specs.FirstFault.{and_then, fault_as}
 use Rattle.sut_settings.specs.SettingsFacts.{SettingsFacts}
@@ -17,19 +16,21 @@ use Rattle.sut_write.specs.Answers.{HasAdmissibleTable}
 use Rattle.sut_cert.specs.Right.{IsRight, IsRightCut, IsRightTable}
 use Rattle.sut_cert.specs.declared.answers.Answer.{Answer}
 use Rattle.sut_cert.specs.declared.answers.Answer.TheVariants as answer
-use Rattle.sut_write.specs.Screen.{screen_text}
+use Rattle.sut_review.specs.Seats.{SeatFacts}
 use Rattle.sut_input.specs.Inputs.{problem_in, problem_names}
 use Rattle.sut_input.specs.Reads.{FailsAmong, Refuses}
 use Rattle.sut_input.specs.declared.faults.InputFault.{InputFault}
 use Rattle.sut_input.specs.declared.faults.InputFault.TheVariants as fault
 use Rattle.sut_status.specs.declared.statuses.Status.{Status}
-use Rattle.sut_status.specs.declared.statuses.Status.TheVariants.{Balanced, NoMemory, Usage, Infeasible, WriteFault, SinkFault}
+use Rattle.sut_status.specs.declared.statuses.Status.TheVariants.{Balanced, Generated, NoMemory, Usage, Infeasible, WriteFault, SinkFault}
+use Rattle.sut_run.specs.declared.commands.Command.{Command}
 use Rattle.sut_run.specs.declared.commands.Command.TheVariants.{Balance}
 use Rattle.sut_run.specs.Commands.{read_names, written_names}
-use Rattle.sut_run.specs.Inputs.{for_balance, input_of, refused, to_balance}
-use Rattle.sut_run.specs.Deliveries.{answer_files, balance_delivery, status_of}
-use Rattle.sut_run.specs.Steps.{Delivered, FailsWriting, IfReadFault, IfWriteFault, SameSent, Sends, StopsDelivery, StopsWriting, WritesEnd}
-use Rattle.sut_run.specs.Ends.{AnswersInput, Delivers, DeliversRight, Stands}
+use Rattle.sut_run.specs.Inputs.{Given, for_balance, input_of, refused, to_balance}
+use Rattle.sut_run.specs.Deliveries.{Delivery, Gives, GivesAnswer, answer_files, review_files, seats_shown, status_of}
+use Rattle.sut_run.specs.Prepared.{IsPrepared}
+use Rattle.sut_run.specs.Steps.{Delivered, FailsWriting, IfReadFault, IfWriteFault, SameSent, StopsDelivery, StopsWriting, WritesEnd}
+use Rattle.sut_run.specs.Ends.{AnswersInput, Delivers, DeliversRight, IsDone, Stands}
 
 pub sent-same : (sent : Option (List ℕ)) → Told sent sent SameSent
 sent-same None = tt
@@ -70,17 +71,17 @@ refused-answers (Some files) (fault.BadSettings e) h = given-for None files (Err
 refused-answers (Some files) (fault.BadClasses e) h = given-for None files (Err (fault.BadClasses e)) h
 refused-answers (Some files) (fault.BadSource e) h = given-for None files (Err (fault.BadSource e)) h
 
-refused-stands : (f : InputFault) (sent : Option (List ℕ)) (old new : Files) → SameFiles old new → Stands Balance (refused f) sent sent old new
-refused-stands fault.NoMemory sent old new same = inl (same, sent-same sent)
-refused-stands (fault.ReadFault n) sent old new same = (same, sent-same sent)
-refused-stands (fault.Missing n) sent old new same = (same, sent-same sent)
-refused-stands (fault.TooLong n) sent old new same = (same, sent-same sent)
-refused-stands (fault.BadSettings e) sent old new same = (same, sent-same sent)
-refused-stands (fault.BadClasses e) sent old new same = (same, sent-same sent)
-refused-stands (fault.BadSource e) sent old new same = (same, sent-same sent)
+refused-stands : (seats : List SeatFacts) (f : InputFault) (sent : Option (List ℕ)) (old new : Files) → SameFiles old new → Stands seats Balance (refused f) sent sent old new
+refused-stands seats fault.NoMemory sent old new same = inl (same, sent-same sent)
+refused-stands seats (fault.ReadFault n) sent old new same = (same, sent-same sent)
+refused-stands seats (fault.Missing n) sent old new same = (same, sent-same sent)
+refused-stands seats (fault.TooLong n) sent old new same = (same, sent-same sent)
+refused-stands seats (fault.BadSettings e) sent old new same = (same, sent-same sent)
+refused-stands seats (fault.BadClasses e) sent old new same = (same, sent-same sent)
+refused-stands seats (fault.BadSource e) sent old new same = (same, sent-same sent)
 
-pub refused-told : (f : InputFault) (sent : Option (List ℕ)) (old new : Option Files) → Told old new SameFiles → Told old new (Stands Balance (refused f) sent sent)
-refused-told f sent old new kept = told_as SameFiles (Stands Balance (refused f) sent sent) (refused-stands f sent) old new kept
+pub refused-told : (seats : List SeatFacts) (f : InputFault) (sent : Option (List ℕ)) (old new : Option Files) → Told old new SameFiles → Told old new (Stands seats Balance (refused f) sent sent)
+refused-told seats f sent old new kept = told_as SameFiles (Stands seats Balance (refused f) sent sent) (refused-stands seats f sent) old new kept
 
 pub refused-reads : (f : InputFault) (before now : ℕ) (last : Option FileName) → FailsAmong (problem_names SourceCsv) before now last f
     → IfReadFault (refused f) (λ failed. Rose before now × (last ≡ Some failed) × Contains (read_names Balance) failed)
@@ -104,6 +105,7 @@ refused-writes (fault.BadSource e) P = tt
 -- a test that only some statuses pass
 abbrev pub IsRefusal : Status → Type 0
 IsRefusal Balanced = ⊥
+IsRefusal Generated = ⊥
 IsRefusal Infeasible = ⊥
 IsRefusal SinkFault = ⊥
 IsRefusal Usage = ⊥
@@ -120,92 +122,82 @@ is-refusal (fault.BadSource e) = tt
 
 -- ---- a delivery
 
-right : (s : SettingsFacts) (p : ProblemFacts) (a : Answer) → IsRight p a → (status : Status) (before after : Option (List ℕ)) (old now new : Files) → SameFiles old now
-    → input_of Balance None old ≡ Ok (to_balance s p) → Delivers (balance_delivery p a) (status_of a) status now new before after → DeliversRight Balance status old new before after
-right s p a is_right status before after old now new same read delivers =
-    let P : Files → Type 0 = λ files. Delivers (balance_delivery p a) (status_of a) status files new before after in
-    rw read (status_of a, balance_delivery p a, (a, is_right, refl, refl), subst P (same_files old now same) delivers)
+right : (seats : List SeatFacts) (c : Command) (input : Given) (ends : Status) (d : Delivery) → Gives seats input ends d → (status : Status) (before after : Option (List ℕ)) (old now new : Files) → SameFiles old now
+    → input_of c None old ≡ Ok input → Delivers d ends status now new before after → DeliversRight seats c status old new before after
+right seats c input ends d gives status before after old now new same read delivers =
+    let P : Files → Type 0 = λ files. Delivers d ends status files new before after in
+    rw read (ends, d, gives, subst P (same_files old now same) delivers)
 
-done-right : (s : SettingsFacts) (p : ProblemFacts) (a : Answer) → IsRight p a → (before after : Option (List ℕ)) (old now new : Files) → SameFiles old now
-    → input_of Balance None old ≡ Ok (to_balance s p) → WrittenAll (answer_files p a) now new × Told before after (Sends (screen_text p a)) → Stands Balance (status_of a) before after old new
-done-right s p (answer.Balanced t ps) is_right before after old now new same read w =
-    right s p (answer.Balanced t ps) is_right Balanced before after old now new same read (refl, w.0, w.1)
-done-right s p (answer.Infeasible set) is_right before after old now new same read w =
-    right s p (answer.Infeasible set) is_right Infeasible before after old now new same read (refl, w.0, w.1)
+-- what was made for an input was delivered
+pub done-stands : (seats : List SeatFacts) (c : Command) (input : Given) (done : Status) (d : Delivery) → Gives seats input done d → IsDone done → (before after : Option (List ℕ)) (old now new : Files) → SameFiles old now
+    → input_of c None old ≡ Ok input → Delivered d.texts d.lines {T = Unit {0}} (Ok tt) now new before after → Stands seats c done before after old new
+done-stands seats c input Balanced d gives is before after old now new same read w = right seats c input Balanced d gives Balanced before after old now new same read (refl, w.0, w.1)
+done-stands seats c input Generated d gives is before after old now new same read w = right seats c input Generated d gives Generated before after old now new same read (refl, w.0, w.1)
+done-stands seats c input Infeasible d gives is before after old now new same read w = right seats c input Infeasible d gives Infeasible before after old now new same read (refl, w.0, w.1)
+done-stands seats c input _ d gives is before after old now new same read w = absurd is
 
-failed-right : (s : SettingsFacts) (p : ProblemFacts) (a : Answer) → IsRight p a → (names : List FileName) (stopped : Status) → StopsDelivery names stopped → (before after : Option (List ℕ)) (old now new : Files) → SameFiles old now
-    → input_of Balance None old ≡ Ok (to_balance s p) → Delivered (answer_files p a) (screen_text p a) {T = Unit {0}} (Err stopped) now new before after → Stands Balance stopped before after old new
-failed-right s p a is_right names NoMemory stops before after old now new same read w = inr (right s p a is_right NoMemory before after old now new same read w)
-failed-right s p a is_right names (WriteFault n) stops before after old now new same read w = right s p a is_right (WriteFault n) before after old now new same read w
-failed-right s p a is_right names SinkFault stops before after old now new same read w = right s p a is_right SinkFault before after old now new same read w
-failed-right s p a is_right names _ stops before after old now new same read w = absurd stops
+-- the delivery of what was made for an input stopped
+pub failed-stands : (seats : List SeatFacts) (c : Command) (input : Given) (done : Status) (d : Delivery) → Gives seats input done d → (names : List FileName) (stopped : Status) → StopsDelivery names stopped
+    → (before after : Option (List ℕ)) (old now new : Files) → SameFiles old now → input_of c None old ≡ Ok input
+    → Delivered d.texts d.lines {T = Unit {0}} (Err stopped) now new before after → Stands seats c stopped before after old new
+failed-stands seats c input done d gives names NoMemory stops before after old now new same read w = inr (right seats c input done d gives NoMemory before after old now new same read w)
+failed-stands seats c input done d gives names (WriteFault n) stops before after old now new same read w = right seats c input done d gives (WriteFault n) before after old now new same read w
+failed-stands seats c input done d gives names SinkFault stops before after old now new same read w = right seats c input done d gives SinkFault before after old now new same read w
+failed-stands seats c input done d gives names _ stops before after old now new same read w = absurd stops
 
--- what was read, and what was made for the answer
-pub record IsMade (p : ProblemFacts) (a : Answer) (texts : List (FileName × List ℕ)) (lines : List ℕ) : Type 0 where
-  pub right : IsRight p a
-  pub written : texts ≡ answer_files p a
-  pub printed : lines ≡ screen_text p a
+-- what was made for a right answer is given for its problem
+pub gives-answer : (seats : List SeatFacts) (p : ProblemFacts) (done : Status) (texts : List (FileName × List ℕ)) (lines : List ℕ) → IsPrepared seats p done texts lines → GivesAnswer seats p done (record { texts = texts; lines = lines })
+gives-answer seats p done texts lines x = record {
+  answer = x.answer;
+  right = x.right;
+  ends = x.ends;
+  delivers = λ i. record { texts = x.written i; lines = x.printed i };
+}
 
-pub record WasRead (s : SettingsFacts) (p : ProblemFacts) (old now : Files) : Type 0 where
-  pub same : SameFiles old now
-  pub spelled : problem_in SourceCsv None old ≡ Ok (s, p)
-
-given : (s : SettingsFacts) (p : ProblemFacts) (old : Files) → problem_in SourceCsv None old ≡ Ok (s, p) → input_of Balance None old ≡ Ok (to_balance s p)
+pub given : (s : SettingsFacts) (p : ProblemFacts) (old : Files) → problem_in SourceCsv None old ≡ Ok (s, p) → input_of Balance None old ≡ Ok (to_balance s p)
 given s p old e = given-for None old (Ok (s, p)) e
 
-pub done-stands : (s : SettingsFacts) (p : ProblemFacts) (a : Answer) (texts : List (FileName × List ℕ)) (lines : List ℕ) → IsMade p a texts lines → (done : Status) → done ≡ status_of a
-    → (before after : Option (List ℕ)) (old now new : Files) → WasRead s p old now → Delivered texts lines {T = Unit {0}} (Ok tt) now new before after → Stands Balance done before after old new
-done-stands s p a texts lines made done ends before after old now new read w =
-    let P : List (FileName × List ℕ) → Type 0 = λ x. WrittenAll x now new × Told before after (Sends lines) in
-    let Q : List ℕ → Type 0 = λ x. WrittenAll (answer_files p a) now new × Told before after (Sends x) in
-    let R : Status → Type 0 = λ x. Stands Balance x before after old new in
-    subst R (sym ends) (done-right s p a made.right before after old now new read.same (given s p old read.spelled) (subst Q made.printed (subst P made.written w)))
-
-pub failed-stands : (s : SettingsFacts) (p : ProblemFacts) (a : Answer) (texts : List (FileName × List ℕ)) (lines : List ℕ) → IsMade p a texts lines → (names : List FileName) (stopped : Status) → StopsDelivery names stopped
-    → (before after : Option (List ℕ)) (old now new : Files) → WasRead s p old now → Delivered texts lines {T = Unit {0}} (Err stopped) now new before after → Stands Balance stopped before after old new
-failed-stands s p a texts lines made names stopped stops before after old now new read w =
-    let P : List (FileName × List ℕ) → Type 0 = λ x. Delivered x lines {T = Unit {0}} (Err stopped) now new before after in
-    let Q : List ℕ → Type 0 = λ x. Delivered (answer_files p a) x {T = Unit {0}} (Err stopped) now new before after in
-    failed-right s p a made.right names stopped stops before after old now new read.same (given s p old read.spelled) (subst Q made.printed (subst P made.written w))
+pub given-told : (s : SettingsFacts) (p : ProblemFacts) (held : Option Files) → IfSome held (λ files. problem_in SourceCsv None files ≡ Ok (s, p)) → IfSome held (λ files. input_of Balance None files ≡ Ok (to_balance s p))
+given-told s p None h = tt
+given-told s p (Some files) h = given s p files h
 
 -- what the answers say of the input
 
-ok-of : (s : SettingsFacts) (p : ProblemFacts) (old : Files) → problem_in SourceCsv None old ≡ Ok (s, p) → IsOk (input_of Balance None old)
-ok-of s p old e = rw (given s p old e) refl
+ok-of : (c : Command) (input : Given) (old : Files) → input_of c None old ≡ Ok input → IsOk (input_of c None old)
+ok-of c input old e = rw e refl
 
-pub done-answers : (s : SettingsFacts) (p : ProblemFacts) (a : Answer) (done : Status) → done ≡ status_of a → (held : Option Files) → IfSome held (λ files. problem_in SourceCsv None files ≡ Ok (s, p))
-    → IfSome held (λ files. AnswersInput Balance files done)
-done-answers s p a done ends None h = tt
-done-answers s p (answer.Balanced t ps) done ends (Some files) h = subst (AnswersInput Balance files) (sym ends) (ok-of s p files h)
-done-answers s p (answer.Infeasible set) done ends (Some files) h = subst (AnswersInput Balance files) (sym ends) (ok-of s p files h)
+pub done-answers : (c : Command) (input : Given) (done : Status) → IsDone done → (held : Option Files) → IfSome held (λ files. input_of c None files ≡ Ok input) → IfSome held (λ files. AnswersInput c files done)
+done-answers c input done is None h = tt
+done-answers c input Balanced is (Some files) h = ok-of c input files h
+done-answers c input Generated is (Some files) h = ok-of c input files h
+done-answers c input Infeasible is (Some files) h = ok-of c input files h
+done-answers c input _ is (Some files) h = absurd is
 
-pub failed-answers : (s : SettingsFacts) (p : ProblemFacts) (names : List FileName) (stopped : Status) → StopsDelivery names stopped → (held : Option Files) → IfSome held (λ files. problem_in SourceCsv None files ≡ Ok (s, p))
-    → IfSome held (λ files. AnswersInput Balance files stopped)
-failed-answers s p names stopped stops None h = tt
-failed-answers s p names NoMemory stops (Some files) h = tt
-failed-answers s p names (WriteFault n) stops (Some files) h = ok-of s p files h
-failed-answers s p names SinkFault stops (Some files) h = ok-of s p files h
-failed-answers s p names _ stops (Some files) h = absurd stops
+pub failed-answers : (c : Command) (input : Given) (names : List FileName) (stopped : Status) → StopsDelivery names stopped → (held : Option Files) → IfSome held (λ files. input_of c None files ≡ Ok input)
+    → IfSome held (λ files. AnswersInput c files stopped)
+failed-answers c input names stopped stops None h = tt
+failed-answers c input names NoMemory stops (Some files) h = tt
+failed-answers c input names (WriteFault n) stops (Some files) h = ok-of c input files h
+failed-answers c input names SinkFault stops (Some files) h = ok-of c input files h
+failed-answers c input names _ stops (Some files) h = absurd stops
 
 -- ---- faults of devices
 
-pub done-reads : (a : Answer) (done : Status) → done ≡ status_of a → (P : FileName → Type 0) → IfReadFault done P
-done-reads (answer.Balanced t ps) done ends P = subst (λ s. IfReadFault s P) (sym ends) tt
-done-reads (answer.Infeasible set) done ends P = subst (λ s. IfReadFault s P) (sym ends) tt
+pub answer-done : (a : Answer) (done : Status) → done ≡ status_of a → IsDone done
+answer-done (answer.Balanced t ps) done ends = subst IsDone (sym ends) tt
+answer-done (answer.Infeasible set) done ends = subst IsDone (sym ends) tt
 
-pub done-writes : (a : Answer) (done : Status) → done ≡ status_of a → (P : FileName → Type 0) → IfWriteFault done P
-done-writes (answer.Balanced t ps) done ends P = subst (λ s. IfWriteFault s P) (sym ends) tt
-done-writes (answer.Infeasible set) done ends P = subst (λ s. IfWriteFault s P) (sym ends) tt
+pub done-reads : (done : Status) → IsDone done → (P : FileName → Type 0) → IfReadFault done P
+done-reads Balanced is P = tt
+done-reads Generated is P = tt
+done-reads Infeasible is P = tt
+done-reads _ is P = absurd is
 
--- a test that the statuses of a run that was done pass
-abbrev pub IsAnswer : Status → Type 0
-IsAnswer Balanced = Unit {0}
-IsAnswer Infeasible = Unit {0}
-IsAnswer _ = ⊥
-
-pub is-answer : (a : Answer) → IsAnswer (status_of a)
-is-answer (answer.Balanced t ps) = tt
-is-answer (answer.Infeasible set) = tt
+pub done-writes : (done : Status) → IsDone done → (P : FileName → Type 0) → IfWriteFault done P
+done-writes Balanced is P = tt
+done-writes Generated is P = tt
+done-writes Infeasible is P = tt
+done-writes _ is P = absurd is
 
 pub failed-reads : (names : List FileName) (stopped : Status) → StopsDelivery names stopped → (P : FileName → Type 0) → IfReadFault stopped P
 failed-reads names NoMemory stops P = tt
@@ -213,20 +205,40 @@ failed-reads names (WriteFault n) stops P = tt
 failed-reads names SinkFault stops P = tt
 failed-reads names _ stops P = absurd stops
 
-names-within : (p : ProblemFacts) (a : Answer) (n : FileName) → Contains (map (λ (f : FileName × List ℕ). f.0) (answer_files p a)) n → Contains (written_names Balance) n
-names-within p (answer.Balanced t ps) n h = h
-names-within p (answer.Infeasible set) n (zero, below, is) = (4, omega arith, is)
-names-within p (answer.Infeasible set) n (suc zero, below, is) = (5, omega arith, is)
-names-within p (answer.Infeasible set) n (suc (suc k), below, is) = absurd (omega arith)
+six-of-seven : (n : FileName) → Contains (BalancedCsv ∷ SupplyCsv ∷ UseCsv ∷ AccountsCsv ∷ CertificateCsv ∷ ReportJson ∷ []) n → Contains (written_names Balance) n
+six-of-seven n (zero, below, is) = (0, omega arith, is)
+six-of-seven n (suc zero, below, is) = (1, omega arith, is)
+six-of-seven n (suc (suc zero), below, is) = (2, omega arith, is)
+six-of-seven n (suc (suc (suc zero)), below, is) = (3, omega arith, is)
+six-of-seven n (suc (suc (suc (suc zero))), below, is) = (4, omega arith, is)
+six-of-seven n (suc (suc (suc (suc (suc zero)))), below, is) = (5, omega arith, is)
+six-of-seven n (suc (suc (suc (suc (suc (suc k))))), below, is) = absurd (omega arith)
 
-pub failed-writes : (p : ProblemFacts) (a : Answer) (names : List FileName) → names ≡ map (λ (f : FileName × List ℕ). f.0) (answer_files p a) → (stopped : Status) → StopsDelivery names stopped
+-- the names of what is written of an answer are names that may be written
+names-within : (seats : List SeatFacts) (p : ProblemFacts) (a : Answer) (n : FileName) → Contains (map (λ (f : FileName × List ℕ). f.0) (answer_files p a ++ review_files (seats_shown p a seats))) n → Contains (written_names Balance) n
+names-within [] p (answer.Balanced t ps) n h = six-of-seven n h
+names-within (seat ∷ seats) p (answer.Balanced t ps) n h = h
+names-within [] p (answer.Infeasible set) n (zero, below, is) = (4, omega arith, is)
+names-within [] p (answer.Infeasible set) n (suc zero, below, is) = (5, omega arith, is)
+names-within [] p (answer.Infeasible set) n (suc (suc k), below, is) = absurd (omega arith)
+names-within (seat ∷ seats) p (answer.Infeasible set) n (zero, below, is) = (4, omega arith, is)
+names-within (seat ∷ seats) p (answer.Infeasible set) n (suc zero, below, is) = (5, omega arith, is)
+names-within (seat ∷ seats) p (answer.Infeasible set) n (suc (suc zero), below, is) = (6, omega arith, is)
+names-within (seat ∷ seats) p (answer.Infeasible set) n (suc (suc (suc k)), below, is) = absurd (omega arith)
+
+pub prepared-names : (seats : List SeatFacts) (p : ProblemFacts) (done : Status) (texts : List (FileName × List ℕ)) (lines : List ℕ) → IsPrepared seats p done texts lines → (names : List FileName)
+    → names ≡ map (λ (f : FileName × List ℕ). f.0) texts → (n : FileName) → Contains names n → Contains (written_names Balance) n
+prepared-names seats p done texts lines x names same n h =
+    names-within seats p x.answer n (subst (λ xs. Contains xs n) (same ∙ ap (map (λ (f : FileName × List ℕ). f.0)) x.written) h)
+
+pub failed-writes : (c : Command) (names : List FileName) → ((n : FileName) → Contains names n → Contains (written_names c) n) → (stopped : Status) → StopsDelivery names stopped
     → (before between now : ℕ) (last : Option FileName) → before ≤ between → FailsWriting between now last stopped
-    → IfWriteFault stopped (λ name. Rose before now × (last ≡ Some name) × Contains (written_names Balance) name)
-failed-writes p a names same (WriteFault n) stops before between now last later cause =
-    (omega (arith, later, cause.0), cause.1, names-within p a n (subst (λ xs. Contains xs n) same stops))
-failed-writes p a names same NoMemory stops before between now last later cause = tt
-failed-writes p a names same SinkFault stops before between now last later cause = tt
-failed-writes p a names same _ stops before between now last later cause = absurd stops
+    → IfWriteFault stopped (λ name. Rose before now × (last ≡ Some name) × Contains (written_names c) name)
+failed-writes c names within (WriteFault n) stops before between now last later cause =
+    (omega (arith, later, cause.0), cause.1, within n stops)
+failed-writes c names within NoMemory stops before between now last later cause = tt
+failed-writes c names within SinkFault stops before between now last later cause = tt
+failed-writes c names within _ stops before between now last later cause = absurd stops
 
 -- a test that the statuses of a delivery that stopped pass
 abbrev pub IsStop : Status → Type 0

@@ -1,12 +1,12 @@
 -- What the written files say by themselves.
-use Rattle.std.proofs.Common.{◌≡◌, ◌≤◌, ◌∙◌, ℕ, List, Option, Some, None, Result, Ok, IfSome, length, refl, sym, ap, subst}
-use Rattle.std.specs.Prelude.{◌↔◌, IsSomeAnd, IsTrue}
+use Rattle.std.proofs.Common.{◌≡◌, ◌≤◌, ◌∙◌, ℕ, Bool, false, List, [], ◌∷◌, ◌++◌, Option, Some, None, Result, Ok, IfSome, length, refl, sym, ap, subst}
+use Rattle.std.specs.Prelude.{◌↔◌, IsSomeAnd, IsTrue, if◌then◌else◌}
 use Rattle.sut_outside.specs.declared.names.FileName.{FileName}
-use Rattle.sut_outside.specs.declared.names.FileName.TheVariants.{SettingsToml, ClassesCsv, SourceCsv, BalancedCsv, CertificateCsv}
+use Rattle.sut_outside.specs.declared.names.FileName.TheVariants.{SettingsToml, ClassesCsv, SourceCsv, BalancedCsv, CertificateCsv, ReviewCsv}
 use Rattle.sut_outside.specs.declared.shelf.TheConstants.{FILE_LIMIT}
 use Rattle.sut_outside.specs.Files.{Files, SameFiles, Told}
 use Rattle.sut_outside.proofs.Told.{told_then, told_with}
-use Rattle.sut_outside.specs.Deliveries.{WrittenAll}
+use Rattle.sut_outside.specs.Deliveries.{WrittenAll, after_writes, same_name, with_file}
 use Rattle.sut_outside.specs.Entry.{bytes_or}
 use Rattle.sut_records.specs.FirstFault.{and_then, fault_as}
 use Rattle.sut_settings.specs.SettingsFacts.{SettingsFacts}
@@ -27,13 +27,16 @@ use Rattle.sut_readback.specs.BalancedText.{balanced_text}
 use Rattle.sut_input.specs.Inputs.{problem_in}
 use Rattle.sut_input.specs.declared.faults.InputFault.{InputFault}
 use Rattle.sut_input.specs.declared.faults.InputFault.TheVariants as fault
+use Rattle.sut_status.specs.declared.statuses.Status.{Status}
 use Rattle.sut_status.specs.declared.statuses.Status.TheVariants.{Balanced, Infeasible}
 use Rattle.sut_run.specs.declared.commands.Command.TheVariants.{Balance}
 use Rattle.sut_run.specs.Inputs.{for_balance, refused}
-use Rattle.sut_run.specs.Deliveries.{ReadsBack, answer_files, status_of}
+use Rattle.sut_review.specs.Seats.{SeatFacts}
+use Rattle.sut_review.specs.ReviewText.{review_text}
+use Rattle.sut_run.specs.Deliveries.{ReadsBack, answer_files, review_files, seats_shown, status_of}
+use Rattle.sut_run.specs.Prepared.{IsPrepared}
 use Rattle.sut_run.specs.Headlines.{Headline, WritesCut, WritesLeast}
 use Rattle.sut_run.specs.Steps.{Delivered}
-use Rattle.sut_run.proofs.Delivered.{IsMade, WasRead}
 
 spelled : {A F : Type 0} (held : Option (List ℕ)) (text : List ℕ) (read : List ℕ → Result A F) (value : A) → held ≡ Some text → length text ≤ FILE_LIMIT → read text ≡ Ok value
     → IsSomeAnd held (λ bytes. (length bytes ≤ FILE_LIMIT) × (read bytes ≡ Ok value))
@@ -57,19 +60,36 @@ same-problem old new s c x = problem-by new ∙ (λ i. problem_by (s i) (c i) (x
 given : (s : SettingsFacts) (p : ProblemFacts) (old : Files) → problem_in SourceCsv None old ≡ Ok (s, p) → and_then (fault_as refused (problem_in SourceCsv None old)) for_balance ≡ for_balance (s, p)
 given s p old e = ap (λ r. and_then (fault_as refused r) for_balance) e
 
-pub headline-balanced : (s : SettingsFacts) (p : ProblemFacts) (a : Answer) → IsRight p a → ReadsBack p a → status_of a ≡ Balanced → (old now new : Files) → WasRead s p old now
-    → WrittenAll (answer_files p a) now new → Headline Balance WritesLeast old new
-headline-balanced s p (answer.Infeasible set) is_right reads ends old now new read written = absurd cc
-headline-balanced s p (answer.Balanced t ps) is_right reads ends old now new read written = record {
+-- ---- the files beside the review
+
+after-append : (xs ys : List (FileName × List ℕ)) (files : Files) (name : FileName) → after_writes (xs ++ ys) files name ≡ after_writes ys (after_writes xs files) name
+after-append [] ys files name = refl
+after-append (x ∷ xs) ys files name = after-append xs ys (with_file x.0 x.1 files) name
+
+review-aside : (seats : List SeatFacts) (files : Files) (name : FileName) → same_name name ReviewCsv ≡ false → after_writes (review_files seats) files name ≡ files name
+review-aside [] files name e = refl
+review-aside (seat ∷ seats) files name e = ap (λ (b : Bool). if b then Some (review_text (seat ∷ seats)) else files name) e
+
+-- what stands under a name other than that of the review
+stands-at : (seats : List SeatFacts) (texts : List (FileName × List ℕ)) (now new : Files) → WrittenAll (texts ++ review_files seats) now new
+    → (name : FileName) → same_name name ReviewCsv ≡ false → new name ≡ after_writes texts now name
+stands-at seats texts now new written name e = written name ∙ after-append texts (review_files seats) now name ∙ review-aside seats (after_writes texts now) name e
+
+-- ---- the headline
+
+headline-balanced : (s : SettingsFacts) (p : ProblemFacts) (a : Answer) → IsRight p a → ReadsBack p a → status_of a ≡ Balanced → (old now new : Files) → SameFiles old now → problem_in SourceCsv None old ≡ Ok (s, p)
+    → ((name : FileName) → same_name name ReviewCsv ≡ false → new name ≡ after_writes (answer_files p a) now name) → Headline Balance WritesLeast old new
+headline-balanced s p (answer.Infeasible set) is_right reads ends old now new same read at = absurd cc
+headline-balanced s p (answer.Balanced t ps) is_right reads ends old now new same read at = record {
   problem = p;
   settings = s;
-  given = given s p old read.spelled;
-  spelled = same-problem old new (written SettingsToml ∙ read.same SettingsToml) (written ClassesCsv ∙ read.same ClassesCsv) (written SourceCsv ∙ read.same SourceCsv) ∙ read.spelled;
+  given = given s p old read;
+  spelled = same-problem old new (at SettingsToml refl ∙ same SettingsToml) (at ClassesCsv refl ∙ same ClassesCsv) (at SourceCsv refl ∙ same SourceCsv) ∙ read;
   written = record {
     table = t;
     shown_by = ps;
-    table_spelled = spelled (new BalancedCsv) (balanced_text p t) (balanced_of p) t (written BalancedCsv) reads.0.short reads.0.read;
-    certificate_spelled = spelled (new CertificateCsv) (certificate_text p.classes (certificate.Potentials ps)) (certificate_of p) (certificate.Potentials ps) (written CertificateCsv) reads.1.short reads.1.read;
+    table_spelled = spelled (new BalancedCsv) (balanced_text p t) (balanced_of p) t (at BalancedCsv refl) reads.0.short reads.0.read;
+    certificate_spelled = spelled (new CertificateCsv) (certificate_text p.classes (certificate.Potentials ps)) (certificate_of p) (certificate.Potentials ps) (at CertificateCsv refl) reads.1.short reads.1.read;
     least = is_right.least;
     one_gdp = record {
       by_income = sym (production-income t is_right.least.admissible.identities);
@@ -79,17 +99,17 @@ headline-balanced s p (answer.Balanced t ps) is_right reads ends old now new rea
   };
 }
 
-pub headline-infeasible : (s : SettingsFacts) (p : ProblemFacts) (a : Answer) → IsRight p a → ReadsBack p a → IsTrue (is_infeasible a) ↔ IsImpossible p → status_of a ≡ Infeasible → (old now new : Files) → WasRead s p old now
-    → WrittenAll (answer_files p a) now new → Headline Balance WritesCut old new
-headline-infeasible s p (answer.Balanced t ps) is_right reads none ends old now new read written = absurd cc
-headline-infeasible s p (answer.Infeasible set) is_right reads none ends old now new read written = record {
+headline-infeasible : (s : SettingsFacts) (p : ProblemFacts) (a : Answer) → IsRight p a → ReadsBack p a → IsTrue (is_infeasible a) ↔ IsImpossible p → status_of a ≡ Infeasible → (old now new : Files) → SameFiles old now → problem_in SourceCsv None old ≡ Ok (s, p)
+    → ((name : FileName) → same_name name ReviewCsv ≡ false → new name ≡ after_writes (answer_files p a) now name) → Headline Balance WritesCut old new
+headline-infeasible s p (answer.Balanced t ps) is_right reads none ends old now new same read at = absurd cc
+headline-infeasible s p (answer.Infeasible set) is_right reads none ends old now new same read at = record {
   problem = p;
   settings = s;
-  given = given s p old read.spelled;
-  spelled = same-problem old new (written SettingsToml ∙ read.same SettingsToml) (written ClassesCsv ∙ read.same ClassesCsv) (written SourceCsv ∙ read.same SourceCsv) ∙ read.spelled;
+  given = given s p old read;
+  spelled = same-problem old new (at SettingsToml refl ∙ same SettingsToml) (at ClassesCsv refl ∙ same ClassesCsv) (at SourceCsv refl ∙ same SourceCsv) ∙ read;
   written = record {
     set = set;
-    spelled = spelled (new CertificateCsv) (certificate_text p.classes (certificate.Cut set)) (certificate_of p) (certificate.Cut set) (written CertificateCsv) reads.short reads.read;
+    spelled = spelled (new CertificateCsv) (certificate_text p.classes (certificate.Cut set)) (certificate_of p) (certificate.Cut set) (at CertificateCsv refl) reads.short reads.read;
     contradicts = is_right.contradicts;
     impossible = none.0 refl;
   };
@@ -97,19 +117,20 @@ headline-infeasible s p (answer.Infeasible set) is_right reads none ends old now
 
 -- the same of a delivery where the files are told
 
-pub balanced-told : (s : SettingsFacts) (p : ProblemFacts) (a : Answer) (texts : List (FileName × List ℕ)) (lines : List ℕ) → IsMade p a texts lines → ReadsBack p a → status_of a ≡ Balanced
+pub balanced-told : (seats : List SeatFacts) (s : SettingsFacts) (p : ProblemFacts) (done : Status) (texts : List (FileName × List ℕ)) (lines : List ℕ) → IsPrepared seats p done texts lines → done ≡ Balanced
     → (before after : Option (List ℕ)) (old now new : Option Files) → Told old now SameFiles → IfSome old (λ files. problem_in SourceCsv None files ≡ Ok (s, p))
     → Told now new (λ x y. Delivered texts lines {T = Unit {0}} (Ok tt) x y before after) → Told old new (Headline Balance WritesLeast)
-balanced-told s p a texts lines made reads ends before after old now new kept ok stands =
+balanced-told seats s p done texts lines made e before after old now new kept ok stands =
     told_then (λ (x y : Files). SameFiles x y × (problem_in SourceCsv None x ≡ Ok (s, p))) (λ x y. Delivered texts lines {T = Unit {0}} (Ok tt) x y before after) (Headline Balance WritesLeast)
-    (λ x y z read w. headline-balanced s p a made.right reads ends x y z (record { same = read.0; spelled = read.1 }) (subst (λ t. WrittenAll t y z) made.written w.0))
+    (λ x y z read w. headline-balanced s p made.answer made.right made.reads_back (sym made.ends ∙ e) x y z read.0 read.1
+    (stands-at (seats_shown p made.answer seats) (answer_files p made.answer) y z (subst (λ t. WrittenAll t y z) made.written w.0)))
     old now new (told_with SameFiles (λ (files : Files). problem_in SourceCsv None files ≡ Ok (s, p)) old now kept ok) stands
 
-pub infeasible-told : (s : SettingsFacts) (p : ProblemFacts) (a : Answer) (texts : List (FileName × List ℕ)) (lines : List ℕ) → IsMade p a texts lines → ReadsBack p a
-    → IsTrue (is_infeasible a) ↔ IsImpossible p → status_of a ≡ Infeasible
+pub infeasible-told : (seats : List SeatFacts) (s : SettingsFacts) (p : ProblemFacts) (done : Status) (texts : List (FileName × List ℕ)) (lines : List ℕ) → IsPrepared seats p done texts lines → done ≡ Infeasible
     → (before after : Option (List ℕ)) (old now new : Option Files) → Told old now SameFiles → IfSome old (λ files. problem_in SourceCsv None files ≡ Ok (s, p))
     → Told now new (λ x y. Delivered texts lines {T = Unit {0}} (Ok tt) x y before after) → Told old new (Headline Balance WritesCut)
-infeasible-told s p a texts lines made reads none ends before after old now new kept ok stands =
+infeasible-told seats s p done texts lines made e before after old now new kept ok stands =
     told_then (λ (x y : Files). SameFiles x y × (problem_in SourceCsv None x ≡ Ok (s, p))) (λ x y. Delivered texts lines {T = Unit {0}} (Ok tt) x y before after) (Headline Balance WritesCut)
-    (λ x y z read w. headline-infeasible s p a made.right reads none ends x y z (record { same = read.0; spelled = read.1 }) (subst (λ t. WrittenAll t y z) made.written w.0))
+    (λ x y z read w. headline-infeasible s p made.answer made.right made.reads_back made.impossible (sym made.ends ∙ e) x y z read.0 read.1
+    (stands-at (seats_shown p made.answer seats) (answer_files p made.answer) y z (subst (λ t. WrittenAll t y z) made.written w.0)))
     old now new (told_with SameFiles (λ (files : Files). problem_in SourceCsv None files ≡ Ok (s, p)) old now kept ok) stands

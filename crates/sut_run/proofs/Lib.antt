@@ -1,4 +1,5 @@
 pub mod Lists
+pub mod Made
 pub mod Words
 pub mod Texts
 pub mod Delivered

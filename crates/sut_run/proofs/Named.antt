@@ -5,9 +5,8 @@ use Rattle.sut_outside.specs.declared.names.FileName.{FileName}
 use Rattle.sut_outside.specs.Files.{Files, Told}
 use Rattle.sut_outside.specs.Causes.{Rose}
 use Rattle.sut_status.specs.declared.statuses.Status.{Status}
-use Rattle.sut_status.specs.declared.statuses.Status.TheVariants.{Balanced, NoMemory, Usage, Infeasible, BadSettings, BadClasses, BadSource, ReadFault, WriteFault, Missing, SinkFault, TooLong}
+use Rattle.sut_status.specs.declared.statuses.Status.TheVariants.{Balanced, Generated, NoMemory, Usage, Infeasible, BadSettings, BadClasses, BadSource, ReadFault, WriteFault, Missing, SinkFault, TooLong}
 use Rattle.sut_run.specs.declared.commands.Command.{Command}
-use Rattle.sut_run.specs.declared.commands.Command.TheVariants.{Balance}
 use Rattle.sut_run.specs.Commands.{read_names, written_names}
 use Rattle.sut_run.specs.Inputs.{input_of}
 use Rattle.sut_run.specs.Steps.{IfReadFault, IfWriteFault}
@@ -15,34 +14,31 @@ use Rattle.sut_run.specs.Ends.{AnswersInput, IsDone, LeavesAll}
 use Rattle.sut_run.proofs.Delivered.{sent-same}
 use Rattle.sut_run.proofs.Complete.{complete_from}
 
--- there is one command
-pub only-balance : (c : Command) → c ≡ Balance
-only-balance Balance = refl
+pub some-command : (o : Option Command) (c : Command) → o ≡ Some c → o ≡ None → ⊥
+some-command None c e n = cc
+some-command (Some k) c e n = cc
 
-pub some-command : (o : Option Command) → o ≡ Some Balance → o ≡ None → ⊥
-some-command None e n = cc
-some-command (Some k) e n = cc
-
-pub for-command : (o : Option Command) → o ≡ Some Balance → (P : Command → Type 0) → P Balance → IfSome o P
-for-command o e P h = subst (λ x. IfSome x P) (sym e) h
+pub for-command : (o : Option Command) (c : Command) → o ≡ Some c → (P : Command → Type 0) → P c → IfSome o P
+for-command o c e P h = subst (λ x. IfSome x P) (sym e) h
 
 -- nothing was done
 pub no-command-told : (held : Option Files) (sent : Option (List ℕ)) → Told held held (λ old new. LeavesAll old new sent sent)
 no-command-told None sent = tt
 no-command-told (Some files) sent = ((λ name. refl), sent-same sent)
 
-pub read-names : (o : Option Command) → o ≡ Some Balance → (s : Status) (before now : ℕ) (last : Option FileName)
-    → IfReadFault s (λ failed. Rose before now × (last ≡ Some failed) × Contains (read_names Balance) failed)
+pub read-names : (o : Option Command) (c : Command) → o ≡ Some c → (s : Status) (before now : ℕ) (last : Option FileName)
+    → IfReadFault s (λ failed. Rose before now × (last ≡ Some failed) × Contains (read_names c) failed)
     → IfReadFault s (λ failed. Rose before now × (last ≡ Some failed) × IfSome o (λ k. Contains (read_names k) failed))
-read-names o e s before now last h = subst (λ x. IfReadFault s (λ failed. Rose before now × (last ≡ Some failed) × IfSome x (λ k. Contains (read_names k) failed))) (sym e) h
+read-names o c e s before now last h = subst (λ x. IfReadFault s (λ failed. Rose before now × (last ≡ Some failed) × IfSome x (λ k. Contains (read_names k) failed))) (sym e) h
 
-pub write-names : (o : Option Command) → o ≡ Some Balance → (s : Status) (before now : ℕ) (last : Option FileName)
-    → IfWriteFault s (λ failed. Rose before now × (last ≡ Some failed) × Contains (written_names Balance) failed)
+pub write-names : (o : Option Command) (c : Command) → o ≡ Some c → (s : Status) (before now : ℕ) (last : Option FileName)
+    → IfWriteFault s (λ failed. Rose before now × (last ≡ Some failed) × Contains (written_names c) failed)
     → IfWriteFault s (λ failed. Rose before now × (last ≡ Some failed) × IfSome o (λ k. Contains (written_names k) failed))
-write-names o e s before now last h = subst (λ x. IfWriteFault s (λ failed. Rose before now × (last ≡ Some failed) × IfSome x (λ k. Contains (written_names k) failed))) (sym e) h
+write-names o c e s before now last h = subst (λ x. IfWriteFault s (λ failed. Rose before now × (last ≡ Some failed) × IfSome x (λ k. Contains (written_names k) failed))) (sym e) h
 
 if-read : (s : Status) (R : Type 0) (P Q : FileName → Type 0) → IfReadFault s (λ n. R × P n × Q n) → IfReadFault s (λ n. R)
 if-read Balanced R P Q h = tt
+if-read Generated R P Q h = tt
 if-read NoMemory R P Q h = tt
 if-read Usage R P Q h = tt
 if-read Infeasible R P Q h = tt
@@ -57,6 +53,7 @@ if-read (TooLong n) R P Q h = tt
 
 if-write : (s : Status) (R : Type 0) (P Q : FileName → Type 0) → IfWriteFault s (λ n. R × P n × Q n) → IfWriteFault s (λ n. R)
 if-write Balanced R P Q h = tt
+if-write Generated R P Q h = tt
 if-write NoMemory R P Q h = tt
 if-write Usage R P Q h = tt
 if-write Infeasible R P Q h = tt
@@ -70,11 +67,11 @@ if-write SinkFault R P Q h = tt
 if-write (TooLong n) R P Q h = tt
 
 -- where the input is given and no count rose, the run is done, or memory ran out
-pub complete-told : (held : Option Files) (s : Status) (before now : ℕ) (last : Option FileName) {K : Type 0} → IfSome held (λ files. AnswersInput Balance files s)
-    → IfReadFault s (λ failed. Rose before now × (last ≡ Some failed) × Contains (read_names Balance) failed)
-    → IfWriteFault s (λ failed. Rose before now × (last ≡ Some failed) × Contains (written_names Balance) failed)
+pub complete-told : (c : Command) (held : Option Files) (s : Status) (before now : ℕ) (last : Option FileName) {K : Type 0} → IfSome held (λ files. AnswersInput c files s)
+    → IfReadFault s (λ failed. Rose before now × (last ≡ Some failed) × Contains (read_names c) failed)
+    → IfWriteFault s (λ failed. Rose before now × (last ≡ Some failed) × Contains (written_names c) failed)
     → (s ≡ SinkFault → K)
-    → IfSome held (λ files. IsOk (input_of Balance None files) → ¬ Rose before now → ¬ K → (s ≡ NoMemory) ⊎ IsDone s)
-complete-told None s before now last says read write sink = tt
-complete-told (Some files) s before now last says read write sink =
-    complete_from Balance files _ _ s says (if-read s (Rose before now) (λ failed. last ≡ Some failed) (λ failed. Contains (read_names Balance) failed) read) (if-write s (Rose before now) (λ failed. last ≡ Some failed) (λ failed. Contains (written_names Balance) failed) write) sink
+    → IfSome held (λ files. IsOk (input_of c None files) → ¬ Rose before now → ¬ K → (s ≡ NoMemory) ⊎ IsDone s)
+complete-told c None s before now last says read write sink = tt
+complete-told c (Some files) s before now last says read write sink =
+    complete_from c files _ _ s says (if-read s (Rose before now) (λ failed. last ≡ Some failed) (λ failed. Contains (read_names c) failed) read) (if-write s (Rose before now) (λ failed. last ≡ Some failed) (λ failed. Contains (written_names c) failed) write) sink

@@ -1,25 +1,53 @@
 -- The commands, their words, and the files that each reads and may write.
-use Rattle.std.specs.Prelude.{ℕ, List, [], ◌∷◌, Option, Some, None, codes, if◌then◌else◌}
+use Rattle.std.specs.Prelude.{ℕ, ℤ, pos, int_lt, unsigned_abs, List, [], ◌∷◌, Option, Some, None, Result, Ok, Err, codes, if◌then◌else◌}
 use Rattle.std.specs.Str.{bytes_eq}
 use Rattle.sut_outside.specs.declared.names.FileName.{FileName}
-use Rattle.sut_outside.specs.declared.names.FileName.TheVariants.{SourceCsv, BalancedCsv, SupplyCsv, UseCsv, AccountsCsv, CertificateCsv, ReportJson}
+use Rattle.sut_outside.specs.declared.names.FileName.TheVariants.{SourceCsv, BalancedCsv, SupplyCsv, UseCsv, AccountsCsv, CertificateCsv, ReportJson, ReviewCsv, MadeSettingsToml, MadeClassesCsv, MadeSourceCsv}
+use Rattle.sut_text.specs.Number.{whole_of}
+use Rattle.sut_text.specs.declared.numbers.NumberFault.{NumberFault}
+use Rattle.sut_generate.specs.Generator.{is_size}
 use Rattle.sut_input.specs.Inputs.{problem_names}
 use Rattle.sut_run.specs.declared.commands.Command.{Command}
-use Rattle.sut_run.specs.declared.commands.Command.TheVariants.{Balance}
+use Rattle.sut_run.specs.declared.commands.Command.TheVariants.{Balance, Generate}
+
+-- a number, where it is not below 0
+abbrev pub natural_of : Result ℤ NumberFault → Option ℕ
+natural_of (Ok z) = if int_lt z (pos 0) then None else Some (unsigned_abs z)
+natural_of (Err e) = None
+
+-- the number that a word spells in shortest decimal, without a sign
+abbrev pub natural : List ℕ → Option ℕ
+natural word = natural_of (whole_of word)
 
 -- a command of one word
 abbrev pub named : List ℕ → Option Command
 named word = if bytes_eq word (codes "balance") then Some Balance else None
 
+-- a made year of this seed and size, where the generator makes one
+abbrev pub generate_of : Option ℕ → Option ℕ → Option ℕ → Option Command
+generate_of (Some seed) (Some products) (Some industries) =
+    if is_size seed products industries then Some (Generate seed products industries) else None
+generate_of (Some seed) (Some products) None = None
+generate_of (Some seed) None industries = None
+generate_of None products industries = None
+
+-- a command of a word and three numbers
+abbrev pub sized : List ℕ → List ℕ → List ℕ → List ℕ → Option Command
+sized word seed products industries =
+    if bytes_eq word (codes "generate") then generate_of (natural seed) (natural products) (natural industries) else None
+
 -- the command of these words; they are accepted exactly where there is one
 abbrev pub command_of : List (List ℕ) → Option Command
 command_of (word ∷ []) = named word
+command_of (word ∷ seed ∷ products ∷ industries ∷ []) = sized word seed products industries
 command_of _ = None
 
 -- the files that a command reads, in order
 abbrev pub read_names : Command → List FileName
 read_names Balance = problem_names SourceCsv
+read_names (Generate seed products industries) = []
 
 -- the files that a command may write, in order
 abbrev pub written_names : Command → List FileName
-written_names Balance = BalancedCsv ∷ SupplyCsv ∷ UseCsv ∷ AccountsCsv ∷ CertificateCsv ∷ ReportJson ∷ []
+written_names Balance = BalancedCsv ∷ SupplyCsv ∷ UseCsv ∷ AccountsCsv ∷ CertificateCsv ∷ ReportJson ∷ ReviewCsv ∷ []
+written_names (Generate seed products industries) = MadeSettingsToml ∷ MadeClassesCsv ∷ MadeSourceCsv ∷ []

@@ -1,10 +1,16 @@
 -- What a run delivers for its input: the texts that are written, in order, and the lines that are printed then.
 use Rattle.std.specs.Prelude.{◌≡◌, ◌≤◌, ℕ, List, [], ◌∷◌, ◌++◌, length, Ok}
 use Rattle.sut_outside.specs.declared.names.FileName.{FileName}
-use Rattle.sut_outside.specs.declared.names.FileName.TheVariants.{BalancedCsv, SupplyCsv, UseCsv, AccountsCsv, CertificateCsv, ReportJson}
+use Rattle.sut_outside.specs.declared.names.FileName.TheVariants.{BalancedCsv, SupplyCsv, UseCsv, AccountsCsv, CertificateCsv, ReportJson, ReviewCsv, MadeSettingsToml, MadeClassesCsv, MadeSourceCsv}
 use Rattle.sut_outside.specs.declared.shelf.TheConstants.{FILE_LIMIT}
+use Rattle.sut_settings.specs.SettingsFacts.{SettingsFacts}
+use Rattle.sut_settings.specs.SettingsFile.{settings_of}
+use Rattle.sut_classes.specs.ClassLists.{ClassLists}
+use Rattle.sut_classes.specs.ClassFile.{classes_of}
+use Rattle.sut_source.specs.SourceFile.{source_of}
 use Rattle.sut_tables.specs.ProblemFacts.{ProblemFacts}
 use Rattle.sut_tables.specs.TableFacts.{TableFacts}
+use Rattle.sut_tables.specs.Costs.{IsLeast}
 use Rattle.sut_cert.specs.Right.{IsRight}
 use Rattle.sut_cert.specs.CertificateText.{certificate_text}
 use Rattle.sut_cert.specs.CertificateFile.{certificate_of}
@@ -18,10 +24,13 @@ use Rattle.sut_write.specs.Supply.{supply_text}
 use Rattle.sut_write.specs.Use.{use_text}
 use Rattle.sut_write.specs.Accounts.{accounts_text}
 use Rattle.sut_write.specs.Reports.{report_text}
-use Rattle.sut_write.specs.Screen.{screen_text}
+use Rattle.sut_write.specs.Screen.{generated_text, screen_text}
+use Rattle.sut_review.specs.Seats.{SeatFacts, all_shown}
+use Rattle.sut_review.specs.ReviewText.{review_text}
+use Rattle.sut_generate.specs.Generator.{made_classes, made_settings, made_source}
 use Rattle.sut_status.specs.declared.statuses.Status.{Status}
 use Rattle.sut_status.specs.declared.statuses.Status.TheVariants as status
-use Rattle.sut_run.specs.Inputs.{Given, to_balance}
+use Rattle.sut_run.specs.Inputs.{Given, to_balance, to_generate}
 
 pub record Delivery : Type 0 where
   pub texts : List (FileName × List ℕ)
@@ -50,12 +59,65 @@ front_files p (answer.Infeasible set) = certificate_file p (certificate.Cut set)
 abbrev pub answer_files : ProblemFacts → Answer → List (FileName × List ℕ)
 answer_files p a = front_files p a ++ (ReportJson, report_text p a) ∷ []
 
-abbrev pub balance_delivery : ProblemFacts → Answer → Delivery
-balance_delivery p a = record { texts = answer_files p a; lines = screen_text p a }
+-- ---- reviews
 
--- what a run may deliver for an input, and the answer with which it ends then
-abbrev pub Gives : Given → Status → Delivery → Type 0
-Gives (to_balance s p) done d = (a : Answer) × IsRight p a × (done ≡ status_of a) × (d ≡ balance_delivery p a)
+-- the review, where reviewers were handed in
+abbrev pub review_files : List SeatFacts → List (FileName × List ℕ)
+review_files [] = []
+review_files (seat ∷ seats) = (ReviewCsv, review_text (seat ∷ seats)) ∷ []
+
+-- the reviewers see the table of a balanced answer
+abbrev pub seats_shown : ProblemFacts → Answer → List SeatFacts → List SeatFacts
+seats_shown p (answer.Balanced t ps) seats = all_shown p t seats
+seats_shown p (answer.Infeasible set) seats = seats
+
+abbrev pub balance_delivery : List SeatFacts → ProblemFacts → Answer → Delivery
+balance_delivery seats p a =
+    record { texts = answer_files p a ++ review_files (seats_shown p a seats); lines = screen_text p a }
+
+-- ---- a made year
+
+-- the problem that the made files spell
+pub record IsMadeProblem (seed products industries : ℕ) (p : ProblemFacts) : Type 0 where
+  pub settings : SettingsFacts
+  pub classes : ClassLists
+  pub settings_read : settings_of made_settings ≡ Ok settings
+  pub classes_read : classes_of (made_classes products industries) ≡ Ok classes
+  pub source_read : source_of settings classes (made_source seed products industries) ≡ Ok p
+
+-- three texts under the names of made files
+abbrev pub files_in : List ℕ → List ℕ → List ℕ → List (FileName × List ℕ)
+files_in settings classes source = (MadeSettingsToml, settings) ∷ (MadeClassesCsv, classes) ∷ (MadeSourceCsv, source) ∷ []
+
+abbrev pub made_files : ℕ → ℕ → ℕ → List (FileName × List ℕ)
+made_files seed products industries =
+    files_in made_settings (made_classes products industries) (made_source seed products industries)
+
+-- the lines of a least table of the problem that the made files spell
+pub record PrintsMade (seed products industries : ℕ) (lines : List ℕ) : Type 0 where
+  pub problem : ProblemFacts
+  pub table : TableFacts
+  pub made : IsMadeProblem seed products industries problem
+  pub least : IsLeast problem table
+  pub printed : lines ≡ generated_text problem table
+
+-- the made files, and the lines of a least table of their problem
+pub record IsMadeYear (seed products industries : ℕ) (d : Delivery) : Type 0 where
+  pub written : d.texts ≡ made_files seed products industries
+  pub prints : PrintsMade seed products industries d.lines
+
+-- ---- what a run may deliver for an input, and the answer with which it ends then
+
+-- a right answer to a problem is delivered
+pub record GivesAnswer (seats : List SeatFacts) (p : ProblemFacts) (done : Status) (d : Delivery) : Type 0 where
+  pub answer : Answer
+  pub right : IsRight p answer
+  pub ends : done ≡ status_of answer
+  pub delivers : d ≡ balance_delivery seats p answer
+
+abbrev pub Gives : List SeatFacts → Given → Status → Delivery → Type 0
+Gives seats (to_balance s p) done d = GivesAnswer seats p done d
+Gives seats (to_generate seed products industries) done d = (done ≡ status.Generated) × IsMadeYear seed products industries d
 
 -- ---- what is written for the separate check reads back, and is no longer than a read gives
 

@@ -5,15 +5,17 @@ use Rattle.sut_outside.specs.Files.{Files, SameFiles, Told}
 use Rattle.sut_outside.specs.Deliveries.{WrittenAll, StoppedAt}
 use Rattle.sut_outside.specs.Sent.{AppendsPart}
 use Rattle.sut_status.specs.declared.statuses.Status.{Status}
-use Rattle.sut_status.specs.declared.statuses.Status.TheVariants.{Balanced, NoMemory, Usage, Infeasible, BadSettings, BadClasses, BadSource, ReadFault, WriteFault, Missing, SinkFault, TooLong}
+use Rattle.sut_status.specs.declared.statuses.Status.TheVariants.{Balanced, Generated, NoMemory, Usage, Infeasible, BadSettings, BadClasses, BadSource, ReadFault, WriteFault, Missing, SinkFault, TooLong}
 use Rattle.sut_run.specs.declared.commands.Command.{Command}
 use Rattle.sut_run.specs.Inputs.{input_of}
+use Rattle.sut_review.specs.Seats.{SeatFacts}
 use Rattle.sut_run.specs.Deliveries.{Delivery, Gives}
 use Rattle.sut_run.specs.Steps.{SameSent, Sends}
 
 -- the run was done
 abbrev pub IsDone : Status → Type 0
 IsDone Balanced = ⊤
+IsDone Generated = ⊤
 IsDone Infeasible = ⊤
 IsDone _ = ⊥
 
@@ -26,6 +28,7 @@ AnswersInput c files (ReadFault name) = input_of c (Some name) files ≡ Err (Re
 AnswersInput c files (WriteFault name) = IsOk (input_of c None files)
 AnswersInput c files SinkFault = IsOk (input_of c None files)
 AnswersInput c files Balanced = IsOk (input_of c None files)
+AnswersInput c files Generated = IsOk (input_of c None files)
 AnswersInput c files Infeasible = IsOk (input_of c None files)
 AnswersInput c files Usage = input_of c None files ≡ Err Usage
 AnswersInput c files (BadSettings e) = input_of c None files ≡ Err (BadSettings e)
@@ -47,17 +50,18 @@ Delivers d ends SinkFault old new before after = WrittenAll d.texts old new × T
 Delivers d ends done old new before after = (done ≡ ends) × WrittenAll d.texts old new × Told before after (Sends d.lines)
 
 -- a right delivery for the input at entry was begun, and this is what it left
-abbrev pub DeliversRight : Command → Status → Files → Files → Option (List ℕ) → Option (List ℕ) → Type 0
-DeliversRight c status old new before after =
+abbrev pub DeliversRight : List SeatFacts → Command → Status → Files → Files → Option (List ℕ) → Option (List ℕ) → Type 0
+DeliversRight seats c status old new before after =
     IsOkAnd (input_of c None old)
-    (λ input. (ends : Status) × (d : Delivery) × Gives input ends d × Delivers d ends status old new before after)
+    (λ input. (ends : Status) × (d : Delivery) × Gives seats input ends d × Delivers d ends status old new before after)
 
--- What stands on the shelf and went out of the sink after a run, by its answer.
-abbrev pub Stands : Command → Status → Option (List ℕ) → Option (List ℕ) → Files → Files → Type 0
-Stands c NoMemory before after old new =
-    LeavesAll old new before after ⊎ DeliversRight c NoMemory old new before after
-Stands c (WriteFault name) before after old new = DeliversRight c (WriteFault name) old new before after
-Stands c SinkFault before after old new = DeliversRight c SinkFault old new before after
-Stands c Balanced before after old new = DeliversRight c Balanced old new before after
-Stands c Infeasible before after old new = DeliversRight c Infeasible old new before after
-Stands c refused before after old new = LeavesAll old new before after
+-- What stands on the shelf and went out of the sink after a run, by its answer. The reviewers are as they were handed in.
+abbrev pub Stands : List SeatFacts → Command → Status → Option (List ℕ) → Option (List ℕ) → Files → Files → Type 0
+Stands seats c NoMemory before after old new =
+    LeavesAll old new before after ⊎ DeliversRight seats c NoMemory old new before after
+Stands seats c (WriteFault name) before after old new = DeliversRight seats c (WriteFault name) old new before after
+Stands seats c SinkFault before after old new = DeliversRight seats c SinkFault old new before after
+Stands seats c Balanced before after old new = DeliversRight seats c Balanced old new before after
+Stands seats c Generated before after old new = DeliversRight seats c Generated old new before after
+Stands seats c Infeasible before after old new = DeliversRight seats c Infeasible old new before after
+Stands seats c refused before after old new = LeavesAll old new before after

@@ -1,7 +1,7 @@
 -- What the written files say by themselves, read back by the readers' own definitions.
-use Rattle.std.specs.Prelude.{◌≡◌, ◌≤◌, ℕ, ℤ, List, length, None, Ok, Result, IsSomeAnd}
+use Rattle.std.specs.Prelude.{◌≡◌, ◌≤◌, ℕ, ℤ, List, length, None, Ok, Result, IsSomeAnd, ⊤}
 use Rattle.sut_outside.specs.declared.names.FileName.{FileName}
-use Rattle.sut_outside.specs.declared.names.FileName.TheVariants.{SourceCsv, BalancedCsv, CertificateCsv}
+use Rattle.sut_outside.specs.declared.names.FileName.TheVariants.{SourceCsv, BalancedCsv, CertificateCsv, MadeSourceCsv}
 use Rattle.sut_outside.specs.declared.shelf.TheConstants.{FILE_LIMIT}
 use Rattle.sut_outside.specs.Files.{Files}
 use Rattle.sut_settings.specs.SettingsFacts.{SettingsFacts}
@@ -16,16 +16,23 @@ use Rattle.sut_cert.specs.declared.certificates.Certificate.TheVariants as certi
 use Rattle.sut_readback.specs.BalancedFile.{balanced_of}
 use Rattle.sut_input.specs.Inputs.{problem_in}
 use Rattle.sut_run.specs.declared.commands.Command.{Command}
-use Rattle.sut_run.specs.declared.commands.Command.TheVariants.{Balance}
+use Rattle.sut_run.specs.declared.commands.Command.TheVariants.{Balance, Generate}
 use Rattle.sut_run.specs.Inputs.{input_of, to_balance}
 
 -- the problem whose answer is written
 abbrev pub IsLastProblem : Command → Files → SettingsFacts → ProblemFacts → Type 0
 IsLastProblem Balance old s p = input_of Balance None old ≡ Ok (to_balance s p)
+IsLastProblem (Generate seed products industries) old s p = ⊥
 
 -- the name under which the source of that problem stands at exit
 abbrev pub source_name : Command → FileName
 source_name Balance = SourceCsv
+source_name (Generate seed products industries) = MadeSourceCsv
+
+-- the commands whose answers are balanced or infeasible, and written for the separate check
+abbrev pub IsChecked : Command → Type 0
+IsChecked Balance = ⊤
+IsChecked (Generate seed products industries) = ⊥
 
 -- a text stands under the name, is no longer than a read gives, and spells this
 abbrev pub Spells : {A F : Type 0} → Files → FileName → (List ℕ → Result A F) → A → Type 0

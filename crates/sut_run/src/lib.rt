@@ -3,7 +3,9 @@
 
 pub mod balancing;
 pub mod commands;
+mod generating;
 mod outputs;
+mod reviewing;
 pub mod runs;
 mod writing;
 

@@ -5,7 +5,7 @@ ghost use Rattle.sut_tables.specs.Costs.{IsAdmissible};
 ghost use Rattle.sut_cert.specs.Right.{IsRight};
 ghost use Rattle.sut_cert.specs.CertificateText.{NamesLiveAccounts};
 ghost use Rattle.sut_write.specs.Screen as screen;
-ghost use Rattle.sut_run.specs.Outputs.{texts_in};
+ghost use Rattle.sut_run.specs.Outputs.{review_in, texts_in};
 ghost use Rattle.sut_run.specs.Deliveries.{ReadsBack, SpellsCertificate, SpellsTable, answer_files, certificate_file, front_files, status_of, table_files};
 
 use crate::writing::{Made, Output};
@@ -27,7 +27,11 @@ pub(crate) fn status_of(answer: &Answer) -> Status
     }
 }
 
-fn push_text(outputs: &mut Vec<Output>, name: FileName, text: Vec<u8>) -> Result<(), NoMemory>
+pub(crate) fn push_text(
+    outputs: &mut Vec<Output>,
+    name: FileName,
+    text: Vec<u8>,
+) -> Result<(), NoMemory>
     ensures { OnOk result (texts_in outputs.new.items ≡ texts_in outputs.old.items ++ (name, text.items) ∷ []) }
 {
     outputs.push(Output { name, text })?;
@@ -116,10 +120,24 @@ fn front_outputs(alloc: Global, p: &Problem, answer: Answer) -> Result<Vec<Outpu
     }
 }
 
-/// All that is written of an answer, and then printed.
-pub(crate) fn make(alloc: Global, p: &Problem, answer: Answer) -> Result<Made, NoMemory>
+fn push_review(outputs: &mut Vec<Output>, review: Option<Vec<u8>>) -> Result<(), NoMemory>
+    ensures { OnOk result (texts_in outputs.new.items ≡ texts_in outputs.old.items ++ review_in review) }
+{
+    match review {
+        Some(text) => push_text(outputs, FileName::ReviewCsv, text),
+        None => Ok(()),
+    }
+}
+
+/// All that is written of an answer, with the review if there is one, and then printed.
+pub(crate) fn make(
+    alloc: Global,
+    p: &Problem,
+    answer: Answer,
+    review: Option<Vec<u8>>,
+) -> Result<Made, NoMemory>
     requires { IsRight p.now answer }
-    ensures texts { IfOk result (λ made. texts_in made.outputs.items ≡ answer_files p.now answer) }
+    ensures texts { IfOk result (λ made. texts_in made.outputs.items ≡ answer_files p.now answer ++ review_in review) }
     ensures lines { IfOk result (λ made. made.lines.items ≡ screen.screen_text p.now answer) }
     ensures reads_back { OnOk result (ReadsBack p.now answer) }
 {
@@ -127,5 +145,6 @@ pub(crate) fn make(alloc: Global, p: &Problem, answer: Answer) -> Result<Made, N
     let report = report_text(alloc, p, &answer)?;
     let mut outputs = front_outputs(alloc, p, answer)?;
     push_text(&mut outputs, FileName::ReportJson, report)?;
+    push_review(&mut outputs, review)?;
     Ok(Made { outputs, lines })
 }

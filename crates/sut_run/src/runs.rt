@@ -1,37 +1,55 @@
 //! The run of a command.
 
-ghost use Rattle.std.specs.Prelude.{◌≡◌, ◌⊎◌, ◌↔◌, None, Some, IsOk, IfSome, Contains, map, string_bytes};
+ghost use Rattle.std.specs.Prelude.{◌≡◌, ◌⊎◌, ◌↔◌, None, Some, All, IsOk, IfSome, Contains, map, string_bytes};
 ghost use Rattle.sut_outside.specs.Files.{Told};
 ghost use Rattle.sut_outside.specs.Causes.{Rose};
+ghost use Rattle.sut_review.specs.Seats.{new_seat};
 ghost use Rattle.sut_run.specs.Commands.{command_of, read_names, written_names};
 ghost use Rattle.sut_run.specs.Inputs.{input_of};
 ghost use Rattle.sut_run.specs.Ends.{AnswersInput, IsDone, LeavesAll, Stands};
-ghost use Rattle.sut_run.specs.Headlines.{Headline, WritesCut, WritesLeast};
+ghost use Rattle.sut_run.specs.Headlines.{Headline, IsChecked, WritesCut, WritesLeast};
 ghost use Rattle.sut_run.specs.Steps.{IfReadFault, IfWriteFault};
 
 use crate::balancing::run_balance;
 use crate::commands::{Command, command_named};
+use crate::generating::run_generate;
 use std::alloc::Global;
 use sut_outside::{Shelf, Sink};
+use sut_review::Reviewer;
 use sut_status::Status;
 
-/// Runs the command that the words name, over a shelf of files and a sink of printed lines. The words are accepted exactly
-/// where they are the one word `balance`.
+/// Runs the command that the words name, over a shelf of files and a sink of printed lines, with the reviewers that the
+/// caller hands in, none of which has marked a row yet. The words are accepted exactly where they are `balance`, or
+/// `generate SEED PRODUCTS INDUSTRIES` with three shortest decimals of a size that the generator makes.
 ///
 /// `balance` reads `settings.toml`, `classes.csv` and `source.csv`, each once, each parsed before the next is read. Where some
 /// table of whole numbers meets all identities and bounds, it writes one with the least weighted sum of penalties
 /// (`balanced.csv`, `supply.csv`, `use.csv`, `accounts.csv`), potentials that show it least (`certificate.csv`) and a report
 /// (`report.json`), and prints the cost and GDP by production, income and expenditure (SNA 2008, chapter 14; Stone,
 /// Champernowne and Meade 1942). Where there is none, it writes a set of accounts whose bounds contradict each other
-/// (Hoffman) and a report, and prints both sums. All texts are made before the first write; the first failure ends the run.
-pub fn run<F: Shelf, K: Sink>(alloc: Global, words: &[String], shelf: &mut F, out: &mut K) -> Status
+/// (Hoffman) and a report, and prints both sums. Where reviewers were handed in, each sees a balanced table, and
+/// `review.csv` is written last.
+///
+/// `generate` writes `made_settings.toml`, `made_classes.csv` and `made_source.csv`, balances them in memory, and prints the
+/// number of rows and the least cost. It shows nothing to reviewers.
+///
+/// All texts are made before the first write; the first failure ends the run.
+pub fn run<F: Shelf, K: Sink>(
+    alloc: Global,
+    words: &[String],
+    shelf: &mut F,
+    out: &mut K,
+    reviewers: Vec<Box<dyn Reviewer>>,
+) -> Status
+    requires { All (λ b. marked b ≡ 0) reviewers.items }
+
     // The words are refused exactly where they name no command, and then nothing is done.
     ensures usage { (result ≡ Status.Usage) ↔ (command_of (map string_bytes words.now) ≡ None) }
     ensures unused { command_of (map string_bytes words.now) ≡ None → Told (F.files shelf.old) (F.files shelf.new) (λ old new. LeavesAll old new (K.sent out.old) (K.sent out.new)) }
 
     // What each answer says of the files at entry, and what stands after it.
     ensures input { IfSome (command_of (map string_bytes words.now)) (λ c. IfSome (F.files shelf.old) (λ files. AnswersInput c files result)) }
-    ensures stands { IfSome (command_of (map string_bytes words.now)) (λ c. Told (F.files shelf.old) (F.files shelf.new) (Stands c result (K.sent out.old) (K.sent out.new))) }
+    ensures stands { IfSome (command_of (map string_bytes words.now)) (λ c. Told (F.files shelf.old) (F.files shelf.new) (Stands (map (λ b. new_seat (name b) (rule b)) reviewers.items) c result (K.sent out.old) (K.sent out.new))) }
 
     // A fault of a device is answered only where its count rose, with the name of the last failed call.
     ensures read_fault { IfReadFault result (λ failed. Rose (F.faults shelf.old) (F.faults shelf.new) × (F.last_failed shelf.new ≡ Some failed)
@@ -46,13 +64,20 @@ pub fn run<F: Shelf, K: Sink>(alloc: Global, words: &[String], shelf: &mut F, ou
         → (result ≡ Status.NoMemory) ⊎ IsDone result)) }
 
     // Balanced: the written table is least, has one GDP, and the written certificate shows it.
-    ensures balanced { IfSome (command_of (map string_bytes words.now)) (λ c. result ≡ Status.Balanced → Told (F.files shelf.old) (F.files shelf.new) (Headline c WritesLeast)) }
+    ensures balanced { IfSome (command_of (map string_bytes words.now)) (λ c. result ≡ Status.Balanced → IsChecked c × Told (F.files shelf.old) (F.files shelf.new) (Headline c WritesLeast)) }
 
     // Infeasible: the written set contradicts, and no table exists.
-    ensures infeasible { IfSome (command_of (map string_bytes words.now)) (λ c. result ≡ Status.Infeasible → Told (F.files shelf.old) (F.files shelf.new) (Headline c WritesCut)) }
+    ensures infeasible { IfSome (command_of (map string_bytes words.now)) (λ c. result ≡ Status.Infeasible → IsChecked c × Told (F.files shelf.old) (F.files shelf.new) (Headline c WritesCut)) }
 {
     match command_named(words) {
-        Some(Command::Balance) => run_balance(alloc, shelf, out),
-        None => Status::Usage,
+        Some(Command::Balance) => run_balance(alloc, shelf, out, reviewers),
+        Some(Command::Generate(seed, products, industries)) => {
+            drop(reviewers);
+            run_generate(alloc, seed, products, industries, shelf, out)
+        }
+        None => {
+            drop(reviewers);
+            Status::Usage
+        }
     }
 }

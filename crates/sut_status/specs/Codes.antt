@@ -5,6 +5,7 @@ use Rattle.sut_status.specs.declared.statuses.Status.TheVariants as status
 
 abbrev pub code : Status → ℕ
 code status.Balanced = 0
+code status.Generated = 0
 code status.NoMemory = 1
 code status.Usage = 2
 code status.Infeasible = 3

@@ -47,6 +47,7 @@ source_text fault = on_line SourceCsv fault.line ++ spaced (row_words fault.caus
 -- the words of a status, each behind a space
 abbrev pub status_text : Status → List ℕ
 status_text status.Balanced = spaced (codes "ok" ∷ [])
+status_text status.Generated = spaced (codes "ok" ∷ [])
 status_text status.NoMemory = spaced (codes "out" ∷ codes "of" ∷ codes "memory" ∷ [])
 status_text status.Usage = spaced (codes "usage:" ∷ codes "a" ∷ codes "command" ∷ codes "of" ∷ codes "sut" ∷ [])
 status_text status.Infeasible = spaced (codes "infeasible" ∷ [])

@@ -19,6 +19,8 @@ use sut_text::{put_byte, put_bytes};
 pub enum Status {
     /// A least table was written, with the certificate that shows it.
     Balanced,
+    /// A made year was written and balanced.
+    Generated,
     /// Memory ran out.
     NoMemory,
     /// The words name no command.
@@ -49,6 +51,7 @@ fn put_status(out: &mut Vec<u8>, status: &Status) -> Result<(), NoMemory>
 {
     match status {
         Status::Balanced => put_words(out, &[Word::Text(b"ok")]),
+        Status::Generated => put_words(out, &[Word::Text(b"ok")]),
         Status::NoMemory => put_words(
             out,
             &[Word::Text(b"out"), Word::Text(b"of"), Word::Text(b"memory")],
@@ -106,6 +109,7 @@ impl Status {
     {
         match self {
             Status::Balanced => 0,
+            Status::Generated => 0,
             Status::NoMemory => 1,
             Status::Usage => 2,
             Status::Infeasible => 3,

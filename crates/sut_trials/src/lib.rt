@@ -12,8 +12,12 @@ mod files;
 #[cfg(test)]
 mod limits;
 #[cfg(test)]
+mod made;
+#[cfg(test)]
 mod lines;
 #[cfg(test)]
 mod refused;
+#[cfg(test)]
+mod reviews;
 #[cfg(test)]
 mod years;

@@ -25,6 +25,7 @@ fn check(rt: &impl Abort, alloc: Global, cases: &[(Status, u8, &'static str)]) -
 fn without_a_fault_of_input(rt: HostRuntime) -> Result<(), Fail> {
     let cases = [
         (Status::Balanced, 0, "sut: ok\n"),
+        (Status::Generated, 0, "sut: ok\n"),
         (Status::NoMemory, 1, "sut: out of memory\n"),
         (Status::Usage, 2, "sut: usage: a command of sut\n"),
         (Status::Infeasible, 3, "sut: infeasible\n"),

@@ -1,5 +1,5 @@
--- The lines that `balance` prints, each a list of words.
-use Rattle.std.specs.Prelude.{ℕ, List, [], ◌∷◌, codes, decimal}
+-- The lines that `balance` and `generate` print, each a list of words.
+use Rattle.std.specs.Prelude.{ℕ, List, [], ◌∷◌, codes, decimal, length}
 use Rattle.sut_text.specs.Text.{whole_text, printed_text}
 use Rattle.sut_measures.specs.declared.accounts.Account.{Account}
 use Rattle.sut_tables.specs.ProblemFacts.{ProblemFacts}
@@ -34,3 +34,10 @@ screen_lines p (answer.Infeasible s) = infeasible_words p s
 
 abbrev pub screen_text : ProblemFacts → Answer → List ℕ
 screen_text p a = printed_text (screen_lines p a)
+
+abbrev pub rows_words : ProblemFacts → List (List ℕ)
+rows_words p = codes "rows" ∷ decimal (length p.rows) ∷ []
+
+-- the three printed lines of a made year
+abbrev pub generated_text : ProblemFacts → TableFacts → List ℕ
+generated_text p t = printed_text (rows_words p ∷ (codes "balanced" ∷ []) ∷ cost_words p t ∷ [])

@@ -15,7 +15,7 @@ mod words;
 pub use accounts::accounts_text;
 pub use balanced::balanced_text;
 pub use report::report_text;
-pub use screen::screen_text;
+pub use screen::{generated_text, screen_text};
 pub use supply::supply_text;
 pub use sut_readback::{BalancedCause, BalancedFault, read_balanced};
 pub use use_table::use_text;

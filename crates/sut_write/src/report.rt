@@ -26,7 +26,7 @@ fn narrow(sum: i128) -> i64
     sum as i64
 }
 
-fn row_count(p: &Problem) -> u64
+pub(crate) fn row_count(p: &Problem) -> u64
     ensures { result ≡ length p.now.rows }
 {
     p.rows().count() as u64

@@ -1,12 +1,13 @@
-//! The lines that `balance` prints.
+//! The lines that `balance` and `generate` print.
 
 ghost use Rattle.std.specs.Prelude.{◌≡◌, ◌<◌, ◌*◌, ◌^◌, ◌++◌, ◌∷◌, [], IfOk, OnOk, decimal};
 ghost use Rattle.sut_text.specs.Text.{printed_text, words_text};
 ghost use Rattle.sut_text.specs.Fields.{field_bytes};
 ghost use Rattle.sut_tables.specs.Costs.{IsAdmissible};
 ghost use Rattle.sut_write.specs.Answers.{HasAdmissibleTable};
-ghost use Rattle.sut_write.specs.Screen.{balanced_words, cost_words, gdp_words, infeasible_words, screen_text};
+ghost use Rattle.sut_write.specs.Screen.{balanced_words, cost_words, gdp_words, generated_text, infeasible_words, screen_text};
 
+use crate::report::row_count;
 use crate::words::put_word_line;
 use no_memory::NoMemory;
 use std::alloc::Global;
@@ -81,4 +82,16 @@ pub fn screen_text(alloc: Global, p: &Problem, a: &Answer) -> Result<Vec<u8>, No
         Answer::Balanced(t, _) => balanced_screen(alloc, p, t),
         Answer::Infeasible(s) => infeasible_screen(alloc, p, s),
     }
+}
+
+/// The three lines that `generate` prints of a made year: `rows R`, the number of its rows, `balanced` and `cost C`.
+pub fn generated_text(alloc: Global, p: &Problem, t: &Table) -> Result<Vec<u8>, NoMemory>
+    requires { IsAdmissible p.now t.now }
+    ensures { IfOk result (λ v. v.items ≡ generated_text p.now t.now) }
+{
+    let mut out = Vec::new(alloc);
+    put_word_line(&mut out, b"rows", &[Field::Count(row_count(p))])?;
+    put_bytes(&mut out, b"balanced\n")?;
+    put_cost(&mut out, p, t)?;
+    Ok(out)
 }

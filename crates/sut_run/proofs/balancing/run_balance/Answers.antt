@@ -1,19 +1,19 @@
-use Rattle.std.proofs.Common.{◌≡◌, ◌∙◌, ℕ, List, Ok, Err, Some, None, Contains, IfSome, map, inl, ap, sym, subst}
+use Rattle.std.proofs.Common.{◌≡◌, ◌∙◌, Ok, Err, Some, None, Contains, IfSome, map, inl, sym, subst}
 use Rattle.sut_outside.specs.declared.names.FileName.{FileName}
-use Rattle.sut_outside.specs.declared.names.FileName.TheVariants.{SourceCsv}
 use Rattle.sut_outside.specs.Files.{Files, SameFiles, Told}
 use Rattle.sut_outside.specs.Causes.{Rose}
 use Rattle.sut_outside.proofs.Told.{told_as, told_then, told_with}
-use Rattle.sut_input.specs.Inputs.{problem_in}
 use Rattle.sut_status.specs.declared.statuses.Status.{Status}
 use Rattle.sut_status.specs.declared.statuses.Status.TheVariants.{NoMemory}
+use Rattle.sut_review.specs.Seats.{new_seat}
 use Rattle.sut_run.specs.declared.commands.Command.TheVariants.{Balance}
 use Rattle.sut_run.specs.declared.writing.Output.{Output}
 use Rattle.sut_run.specs.Commands.{read_names, written_names}
+use Rattle.sut_run.specs.Inputs.{input_of, to_balance}
 use Rattle.sut_run.specs.Outputs.{texts_in}
 use Rattle.sut_run.specs.Steps.{Delivered, IfReadFault, IfWriteFault}
-use Rattle.sut_run.specs.Ends.{AnswersInput, Stands}
-use Rattle.sut_run.proofs.Delivered.{IsAnswer, IsRefusal, IsStop, done-answers, done-reads, done-stands, done-writes, failed-answers, failed-reads, failed-stands, failed-writes, is-answer, is-refusal, is-stop, refused-answers, refused-reads, refused-told, refused-writes, sent-same, whatever}
+use Rattle.sut_run.specs.Ends.{AnswersInput, IsDone, Stands}
+use Rattle.sut_run.proofs.Delivered.{IsRefusal, IsStop, answer-done, done-answers, done-reads, done-stands, done-writes, failed-answers, failed-reads, failed-stands, failed-writes, given-told, gives-answer, is-refusal, is-stop, prepared-names, refused-answers, refused-reads, refused-told, refused-writes, sent-same, whatever}
 use Rattle.sut_run.proofs.Headlined.{balanced-told, infeasible-told}
 use Rattle.sut_run.proofs.Lists.{names_in}
 use Rattle.sut_run.proofs.balancing.run_balance.Goals as goal
@@ -24,7 +24,7 @@ returns-in-Err-clause-input g c =
 
 pub returns-in-Err-clause-stands : goal.returns-in-Err-clause-stands
 returns-in-Err-clause-stands g c =
-    let P : Status → Type 0 = λ s. Told (g.F.Shelf.files c.args.shelf.now) (g.F.Shelf.files c.read_problem.new.shelf) (Stands Balance s (g.K.Sink.sent c.args.out.now) (g.K.Sink.sent c.args.out.now)) in subst P (sym c.refused.ensures) (refused-told c.in-Err.fault (g.K.Sink.sent c.args.out.now) _ _ c.read_problem.ensures.kept)
+    let P : Status → Type 0 = λ s. Told (g.F.Shelf.files c.args.shelf.now) (g.F.Shelf.files c.read_problem.new.shelf) (Stands (map (λ b. new_seat ((g.dyn-1.0.entry b.vtable).1.name b.value) ((g.dyn-1.0.entry b.vtable).1.rule b.value)) c.args.reviewers.items) Balance s (g.K.Sink.sent c.args.out.now) (g.K.Sink.sent c.args.out.now)) in subst P (sym c.refused.ensures) (refused-told (map (λ b. new_seat ((g.dyn-1.0.entry b.vtable).1.name b.value) ((g.dyn-1.0.entry b.vtable).1.rule b.value)) c.args.reviewers.items) c.in-Err.fault (g.K.Sink.sent c.args.out.now) _ _ c.read_problem.ensures.kept)
 
 pub returns-in-Err-clause-read_fault : goal.returns-in-Err-clause-read_fault
 returns-in-Err-clause-read_fault g c =
@@ -56,68 +56,60 @@ returns-in-Err-prepare-clause-input g c =
 
 pub returns-in-Err-prepare-clause-stands : goal.returns-in-Err-prepare-clause-stands
 returns-in-Err-prepare-clause-stands g c =
-    told_as SameFiles (Stands Balance NoMemory (g.K.Sink.sent c.args.out.now) (g.K.Sink.sent c.args.out.now)) (λ old new same. inl (same, sent-same (g.K.Sink.sent c.args.out.now))) _ _ c.read_problem.ensures.kept
+    told_as SameFiles (Stands (map (λ b. new_seat ((g.dyn-1.0.entry b.vtable).1.name b.value) ((g.dyn-1.0.entry b.vtable).1.rule b.value)) c.args.reviewers.items) Balance NoMemory (g.K.Sink.sent c.args.out.now) (g.K.Sink.sent c.args.out.now)) (λ old new same. inl (same, sent-same (g.K.Sink.sent c.args.out.now))) _ _ c.read_problem.ensures.kept
 
 pub returns-in-Ok-deliver-clause-input : goal.returns-in-Ok-deliver-clause-input
 returns-in-Ok-deliver-clause-input g c =
-    done-answers c.in-Ok.input.settings c.in-Ok.input.problem c.in-Ok-prepare.ensures.answer c.in-Ok-prepare.prepared.done c.in-Ok-prepare.ensures.ends (g.F.Shelf.files c.args.shelf.now) c.in-Ok.ensures.ok
+    done-answers Balance (to_balance c.in-Ok.input.settings c.in-Ok.input.problem) c.in-Ok-prepare.prepared.done (answer-done c.in-Ok-prepare.ensures.answer c.in-Ok-prepare.prepared.done c.in-Ok-prepare.ensures.ends) (g.F.Shelf.files c.args.shelf.now) (given-told c.in-Ok.input.settings c.in-Ok.input.problem (g.F.Shelf.files c.args.shelf.now) c.in-Ok.ensures.ok)
 
 pub returns-in-Ok-deliver-clause-stands : goal.returns-in-Ok-deliver-clause-stands
 returns-in-Ok-deliver-clause-stands g c =
-    told_then (λ (old now : Files). SameFiles old now × (problem_in SourceCsv None old ≡ Ok (c.in-Ok.input.settings, c.in-Ok.input.problem))) (λ (now new : Files). Delivered (texts_in c.in-Ok-prepare.prepared.made.outputs.items) c.in-Ok-prepare.prepared.made.lines.items {T = Unit {0}} (Ok tt) now new (g.K.Sink.sent c.args.out.now) (g.K.Sink.sent c.deliver.new.out)) (Stands Balance c.in-Ok-prepare.prepared.done (g.K.Sink.sent c.args.out.now) (g.K.Sink.sent c.deliver.new.out))
-    (λ old now new read w. done-stands c.in-Ok.input.settings c.in-Ok.input.problem c.in-Ok-prepare.ensures.answer (texts_in c.in-Ok-prepare.prepared.made.outputs.items) c.in-Ok-prepare.prepared.made.lines.items (record { right = c.in-Ok-prepare.ensures.right; written = c.in-Ok-prepare.ensures.written; printed = c.in-Ok-prepare.ensures.printed }) c.in-Ok-prepare.prepared.done c.in-Ok-prepare.ensures.ends (g.K.Sink.sent c.args.out.now) (g.K.Sink.sent c.deliver.new.out) old now new (record { same = read.0; spelled = read.1 }) w)
-    _ _ _ (told_with SameFiles (λ (files : Files). problem_in SourceCsv None files ≡ Ok (c.in-Ok.input.settings, c.in-Ok.input.problem)) _ _ c.read_problem.ensures.kept c.in-Ok.ensures.ok) c.in-Ok-deliver.ensures.stands
+    told_then (λ (old now : Files). SameFiles old now × (input_of Balance None old ≡ Ok (to_balance c.in-Ok.input.settings c.in-Ok.input.problem))) (λ (now new : Files). Delivered (texts_in c.in-Ok-prepare.prepared.made.outputs.items) c.in-Ok-prepare.prepared.made.lines.items {T = Unit {0}} (Ok tt) now new (g.K.Sink.sent c.args.out.now) (g.K.Sink.sent c.deliver.new.out)) (Stands (map (λ b. new_seat ((g.dyn-1.0.entry b.vtable).1.name b.value) ((g.dyn-1.0.entry b.vtable).1.rule b.value)) c.args.reviewers.items) Balance c.in-Ok-prepare.prepared.done (g.K.Sink.sent c.args.out.now) (g.K.Sink.sent c.deliver.new.out))
+    (λ old now new read w. done-stands (map (λ b. new_seat ((g.dyn-1.0.entry b.vtable).1.name b.value) ((g.dyn-1.0.entry b.vtable).1.rule b.value)) c.args.reviewers.items) Balance (to_balance c.in-Ok.input.settings c.in-Ok.input.problem) c.in-Ok-prepare.prepared.done (record { texts = texts_in c.in-Ok-prepare.prepared.made.outputs.items; lines = c.in-Ok-prepare.prepared.made.lines.items }) (gives-answer (map (λ b. new_seat ((g.dyn-1.0.entry b.vtable).1.name b.value) ((g.dyn-1.0.entry b.vtable).1.rule b.value)) c.args.reviewers.items) c.in-Ok.input.problem c.in-Ok-prepare.prepared.done (texts_in c.in-Ok-prepare.prepared.made.outputs.items) c.in-Ok-prepare.prepared.made.lines.items c.in-Ok-prepare.ensures) (answer-done c.in-Ok-prepare.ensures.answer c.in-Ok-prepare.prepared.done c.in-Ok-prepare.ensures.ends) (g.K.Sink.sent c.args.out.now) (g.K.Sink.sent c.deliver.new.out) old now new read.0 read.1 w)
+    _ _ _ (told_with SameFiles (λ (files : Files). input_of Balance None files ≡ Ok (to_balance c.in-Ok.input.settings c.in-Ok.input.problem)) _ _ c.read_problem.ensures.kept (given-told c.in-Ok.input.settings c.in-Ok.input.problem (g.F.Shelf.files c.args.shelf.now) c.in-Ok.ensures.ok)) c.in-Ok-deliver.ensures.stands
 
 pub returns-in-Ok-deliver-clause-read_fault : goal.returns-in-Ok-deliver-clause-read_fault
-returns-in-Ok-deliver-clause-read_fault g c =
-    done-reads c.in-Ok-prepare.ensures.answer c.in-Ok-prepare.prepared.done c.in-Ok-prepare.ensures.ends _
+returns-in-Ok-deliver-clause-read_fault g c = done-reads c.in-Ok-prepare.prepared.done (answer-done c.in-Ok-prepare.ensures.answer c.in-Ok-prepare.prepared.done c.in-Ok-prepare.ensures.ends) _
 
 pub returns-in-Ok-deliver-clause-write_fault : goal.returns-in-Ok-deliver-clause-write_fault
-returns-in-Ok-deliver-clause-write_fault g c =
-    done-writes c.in-Ok-prepare.ensures.answer c.in-Ok-prepare.prepared.done c.in-Ok-prepare.ensures.ends _
+returns-in-Ok-deliver-clause-write_fault g c = done-writes c.in-Ok-prepare.prepared.done (answer-done c.in-Ok-prepare.ensures.answer c.in-Ok-prepare.prepared.done c.in-Ok-prepare.ensures.ends) _
 
 pub returns-in-Ok-deliver-clause-sink_fault : goal.returns-in-Ok-deliver-clause-sink_fault
-returns-in-Ok-deliver-clause-sink_fault g c e =
-    absurd (subst IsAnswer (sym c.in-Ok-prepare.ensures.ends ∙ e) (is-answer c.in-Ok-prepare.ensures.answer))
+returns-in-Ok-deliver-clause-sink_fault g c e = absurd (subst IsDone e (answer-done c.in-Ok-prepare.ensures.answer c.in-Ok-prepare.prepared.done c.in-Ok-prepare.ensures.ends))
 
 pub returns-in-Ok-deliver-clause-used : goal.returns-in-Ok-deliver-clause-used
-returns-in-Ok-deliver-clause-used g c e =
-    absurd (subst IsAnswer (sym c.in-Ok-prepare.ensures.ends ∙ e) (is-answer c.in-Ok-prepare.ensures.answer))
+returns-in-Ok-deliver-clause-used g c e = absurd (subst IsDone e (answer-done c.in-Ok-prepare.ensures.answer c.in-Ok-prepare.prepared.done c.in-Ok-prepare.ensures.ends))
 
 pub returns-in-Ok-deliver-clause-balanced : goal.returns-in-Ok-deliver-clause-balanced
 returns-in-Ok-deliver-clause-balanced g c e =
-    balanced-told c.in-Ok.input.settings c.in-Ok.input.problem c.in-Ok-prepare.ensures.answer (texts_in c.in-Ok-prepare.prepared.made.outputs.items) c.in-Ok-prepare.prepared.made.lines.items (record { right = c.in-Ok-prepare.ensures.right; written = c.in-Ok-prepare.ensures.written; printed = c.in-Ok-prepare.ensures.printed }) c.in-Ok-prepare.ensures.reads_back (sym c.in-Ok-prepare.ensures.ends ∙ e) (g.K.Sink.sent c.args.out.now) (g.K.Sink.sent c.deliver.new.out) _ _ _ c.read_problem.ensures.kept c.in-Ok.ensures.ok c.in-Ok-deliver.ensures.stands
+    balanced-told (map (λ b. new_seat ((g.dyn-1.0.entry b.vtable).1.name b.value) ((g.dyn-1.0.entry b.vtable).1.rule b.value)) c.args.reviewers.items) c.in-Ok.input.settings c.in-Ok.input.problem c.in-Ok-prepare.prepared.done (texts_in c.in-Ok-prepare.prepared.made.outputs.items) c.in-Ok-prepare.prepared.made.lines.items c.in-Ok-prepare.ensures e (g.K.Sink.sent c.args.out.now) (g.K.Sink.sent c.deliver.new.out) _ _ _ c.read_problem.ensures.kept c.in-Ok.ensures.ok c.in-Ok-deliver.ensures.stands
 
 pub returns-in-Ok-deliver-clause-infeasible : goal.returns-in-Ok-deliver-clause-infeasible
 returns-in-Ok-deliver-clause-infeasible g c e =
-    infeasible-told c.in-Ok.input.settings c.in-Ok.input.problem c.in-Ok-prepare.ensures.answer (texts_in c.in-Ok-prepare.prepared.made.outputs.items) c.in-Ok-prepare.prepared.made.lines.items (record { right = c.in-Ok-prepare.ensures.right; written = c.in-Ok-prepare.ensures.written; printed = c.in-Ok-prepare.ensures.printed }) c.in-Ok-prepare.ensures.reads_back c.in-Ok-prepare.ensures.impossible (sym c.in-Ok-prepare.ensures.ends ∙ e) (g.K.Sink.sent c.args.out.now) (g.K.Sink.sent c.deliver.new.out) _ _ _ c.read_problem.ensures.kept c.in-Ok.ensures.ok c.in-Ok-deliver.ensures.stands
+    infeasible-told (map (λ b. new_seat ((g.dyn-1.0.entry b.vtable).1.name b.value) ((g.dyn-1.0.entry b.vtable).1.rule b.value)) c.args.reviewers.items) c.in-Ok.input.settings c.in-Ok.input.problem c.in-Ok-prepare.prepared.done (texts_in c.in-Ok-prepare.prepared.made.outputs.items) c.in-Ok-prepare.prepared.made.lines.items c.in-Ok-prepare.ensures e (g.K.Sink.sent c.args.out.now) (g.K.Sink.sent c.deliver.new.out) _ _ _ c.read_problem.ensures.kept c.in-Ok.ensures.ok c.in-Ok-deliver.ensures.stands
 
 pub returns-clause-input : goal.returns-clause-input
 returns-clause-input g c =
-    failed-answers c.in-Ok.input.settings c.in-Ok.input.problem (map (λ (output : Output). output.name) c.in-Ok-prepare.prepared.made.outputs.items) c.in-Err-deliver.stopped c.in-Err-deliver.ensures.stops (g.F.Shelf.files c.args.shelf.now) c.in-Ok.ensures.ok
+    failed-answers Balance (to_balance c.in-Ok.input.settings c.in-Ok.input.problem) (map (λ (output : Output). output.name) c.in-Ok-prepare.prepared.made.outputs.items) c.in-Err-deliver.stopped c.in-Err-deliver.ensures.stops (g.F.Shelf.files c.args.shelf.now) (given-told c.in-Ok.input.settings c.in-Ok.input.problem (g.F.Shelf.files c.args.shelf.now) c.in-Ok.ensures.ok)
 
 pub returns-clause-stands : goal.returns-clause-stands
 returns-clause-stands g c =
-    told_then (λ (old now : Files). SameFiles old now × (problem_in SourceCsv None old ≡ Ok (c.in-Ok.input.settings, c.in-Ok.input.problem))) (λ (now new : Files). Delivered (texts_in c.in-Ok-prepare.prepared.made.outputs.items) c.in-Ok-prepare.prepared.made.lines.items {T = Unit {0}} (Err c.in-Err-deliver.stopped) now new (g.K.Sink.sent c.args.out.now) (g.K.Sink.sent c.deliver.new.out)) (Stands Balance c.in-Err-deliver.stopped (g.K.Sink.sent c.args.out.now) (g.K.Sink.sent c.deliver.new.out))
-    (λ old now new read w. failed-stands c.in-Ok.input.settings c.in-Ok.input.problem c.in-Ok-prepare.ensures.answer (texts_in c.in-Ok-prepare.prepared.made.outputs.items) c.in-Ok-prepare.prepared.made.lines.items (record { right = c.in-Ok-prepare.ensures.right; written = c.in-Ok-prepare.ensures.written; printed = c.in-Ok-prepare.ensures.printed }) (map (λ (output : Output). output.name) c.in-Ok-prepare.prepared.made.outputs.items) c.in-Err-deliver.stopped c.in-Err-deliver.ensures.stops (g.K.Sink.sent c.args.out.now) (g.K.Sink.sent c.deliver.new.out) old now new (record { same = read.0; spelled = read.1 }) w)
-    _ _ _ (told_with SameFiles (λ (files : Files). problem_in SourceCsv None files ≡ Ok (c.in-Ok.input.settings, c.in-Ok.input.problem)) _ _ c.read_problem.ensures.kept c.in-Ok.ensures.ok) c.in-Err-deliver.ensures.stands
+    told_then (λ (old now : Files). SameFiles old now × (input_of Balance None old ≡ Ok (to_balance c.in-Ok.input.settings c.in-Ok.input.problem))) (λ (now new : Files). Delivered (texts_in c.in-Ok-prepare.prepared.made.outputs.items) c.in-Ok-prepare.prepared.made.lines.items {T = Unit {0}} (Err c.in-Err-deliver.stopped) now new (g.K.Sink.sent c.args.out.now) (g.K.Sink.sent c.deliver.new.out)) (Stands (map (λ b. new_seat ((g.dyn-1.0.entry b.vtable).1.name b.value) ((g.dyn-1.0.entry b.vtable).1.rule b.value)) c.args.reviewers.items) Balance c.in-Err-deliver.stopped (g.K.Sink.sent c.args.out.now) (g.K.Sink.sent c.deliver.new.out))
+    (λ old now new read w. failed-stands (map (λ b. new_seat ((g.dyn-1.0.entry b.vtable).1.name b.value) ((g.dyn-1.0.entry b.vtable).1.rule b.value)) c.args.reviewers.items) Balance (to_balance c.in-Ok.input.settings c.in-Ok.input.problem) c.in-Ok-prepare.prepared.done (record { texts = texts_in c.in-Ok-prepare.prepared.made.outputs.items; lines = c.in-Ok-prepare.prepared.made.lines.items }) (gives-answer (map (λ b. new_seat ((g.dyn-1.0.entry b.vtable).1.name b.value) ((g.dyn-1.0.entry b.vtable).1.rule b.value)) c.args.reviewers.items) c.in-Ok.input.problem c.in-Ok-prepare.prepared.done (texts_in c.in-Ok-prepare.prepared.made.outputs.items) c.in-Ok-prepare.prepared.made.lines.items c.in-Ok-prepare.ensures) (map (λ (output : Output). output.name) c.in-Ok-prepare.prepared.made.outputs.items) c.in-Err-deliver.stopped c.in-Err-deliver.ensures.stops (g.K.Sink.sent c.args.out.now) (g.K.Sink.sent c.deliver.new.out) old now new read.0 read.1 w)
+    _ _ _ (told_with SameFiles (λ (files : Files). input_of Balance None files ≡ Ok (to_balance c.in-Ok.input.settings c.in-Ok.input.problem)) _ _ c.read_problem.ensures.kept (given-told c.in-Ok.input.settings c.in-Ok.input.problem (g.F.Shelf.files c.args.shelf.now) c.in-Ok.ensures.ok)) c.in-Err-deliver.ensures.stands
 
 pub returns-clause-read_fault : goal.returns-clause-read_fault
-returns-clause-read_fault g c =
-    failed-reads (map (λ (output : Output). output.name) c.in-Ok-prepare.prepared.made.outputs.items) c.in-Err-deliver.stopped c.in-Err-deliver.ensures.stops _
+returns-clause-read_fault g c = failed-reads (map (λ (output : Output). output.name) c.in-Ok-prepare.prepared.made.outputs.items) c.in-Err-deliver.stopped c.in-Err-deliver.ensures.stops _
 
 pub returns-clause-write_fault : goal.returns-clause-write_fault
 returns-clause-write_fault g c =
-    failed-writes c.in-Ok.input.problem c.in-Ok-prepare.ensures.answer (map (λ (output : Output). output.name) c.in-Ok-prepare.prepared.made.outputs.items) (names_in c.in-Ok-prepare.prepared.made.outputs.items ∙ ap (map (λ (f : FileName × List ℕ). f.0)) c.in-Ok-prepare.ensures.written) c.in-Err-deliver.stopped c.in-Err-deliver.ensures.stops _ _ _ _ c.read_problem.ensures.later c.in-Err-deliver.ensures.cause
+    failed-writes Balance (map (λ (output : Output). output.name) c.in-Ok-prepare.prepared.made.outputs.items) (prepared-names (map (λ b. new_seat ((g.dyn-1.0.entry b.vtable).1.name b.value) ((g.dyn-1.0.entry b.vtable).1.rule b.value)) c.args.reviewers.items) c.in-Ok.input.problem c.in-Ok-prepare.prepared.done (texts_in c.in-Ok-prepare.prepared.made.outputs.items) c.in-Ok-prepare.prepared.made.lines.items c.in-Ok-prepare.ensures (map (λ (output : Output). output.name) c.in-Ok-prepare.prepared.made.outputs.items) (names_in c.in-Ok-prepare.prepared.made.outputs.items)) c.in-Err-deliver.stopped c.in-Err-deliver.ensures.stops _ _ _ _ c.read_problem.ensures.later c.in-Err-deliver.ensures.cause
 
 pub returns-clause-balanced : goal.returns-clause-balanced
-returns-clause-balanced g c e =
-    absurd (subst IsStop e (is-stop (map (λ (output : Output). output.name) c.in-Ok-prepare.prepared.made.outputs.items) c.in-Err-deliver.stopped c.in-Err-deliver.ensures.stops))
+returns-clause-balanced g c e = absurd (subst IsStop e (is-stop (map (λ (output : Output). output.name) c.in-Ok-prepare.prepared.made.outputs.items) c.in-Err-deliver.stopped c.in-Err-deliver.ensures.stops))
 
 pub returns-clause-infeasible : goal.returns-clause-infeasible
-returns-clause-infeasible g c e =
-    absurd (subst IsStop e (is-stop (map (λ (output : Output). output.name) c.in-Ok-prepare.prepared.made.outputs.items) c.in-Err-deliver.stopped c.in-Err-deliver.ensures.stops))
+returns-clause-infeasible g c e = absurd (subst IsStop e (is-stop (map (λ (output : Output). output.name) c.in-Ok-prepare.prepared.made.outputs.items) c.in-Err-deliver.stopped c.in-Err-deliver.ensures.stops))
 
 pub returns-clause-used : goal.returns-clause-used
-returns-clause-used g c e =
-    absurd (subst IsStop e (is-stop (map (λ (output : Output). output.name) c.in-Ok-prepare.prepared.made.outputs.items) c.in-Err-deliver.stopped c.in-Err-deliver.ensures.stops))
+returns-clause-used g c e = absurd (subst IsStop e (is-stop (map (λ (output : Output). output.name) c.in-Ok-prepare.prepared.made.outputs.items) c.in-Err-deliver.stopped c.in-Err-deliver.ensures.stops))

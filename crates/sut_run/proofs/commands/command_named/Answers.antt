@@ -10,7 +10,10 @@ returns-in-len1 c =
     rw one (c.command_of_word.ensures ∙ ap named c.as_str.ensures.value)
 
 pub returns-in_default : goal.returns-in_default
-returns-in_default c = sym (no-command (map string_bytes c.args.words.now) (λ e. omega (arith, e, length-map c.args.words.now string_bytes, c.in_default.len_below)))
+returns-in_default c = sym (no-command (map string_bytes c.args.words.now) (λ e. omega (arith, e, length-map c.args.words.now string_bytes, c.in_default.len_below)) (λ e. omega (arith, e, length-map c.args.words.now string_bytes, c.in_default.len_below)))
 
 pub returns-in_default-2 : goal.returns-in_default-2
-returns-in_default-2 c = sym (no-command (map string_bytes c.args.words.now) (λ e. omega (arith, e, length-map c.args.words.now string_bytes, c.in_default.len_at_least)))
+returns-in_default-2 c = sym (no-command (map string_bytes c.args.words.now) (λ e. omega (arith, e, length-map c.args.words.now string_bytes, c.in_default.len_at_least, c.in_default.len_below)) (λ e. omega (arith, e, length-map c.args.words.now string_bytes, c.in_default.len_at_least, c.in_default.len_below)))
+
+pub returns-in_default-3 : goal.returns-in_default-3
+returns-in_default-3 c = sym (no-command (map string_bytes c.args.words.now) (λ e. omega (arith, e, length-map c.args.words.now string_bytes, c.in_default.len_at_least)) (λ e. omega (arith, e, length-map c.args.words.now string_bytes, c.in_default.len_at_least)))

@@ -3,50 +3,94 @@ use Rattle.std.specs.Prelude.{IsOk}
 use Rattle.sut_outside.specs.Files.{Files, Told}
 use Rattle.sut_outside.specs.Causes.{Rose}
 use Rattle.sut_status.specs.declared.statuses.Status.TheVariants.{Balanced, Infeasible, NoMemory, Usage}
+use Rattle.sut_review.specs.Seats.{new_seat}
 use Rattle.sut_run.specs.declared.commands.Command.{Command}
+use Rattle.sut_run.specs.declared.commands.Command.TheVariants.{Balance, Generate}
 use Rattle.sut_run.specs.Commands.{command_of}
 use Rattle.sut_run.specs.Inputs.{input_of}
 use Rattle.sut_run.specs.Ends.{AnswersInput, IsDone, Stands}
-use Rattle.sut_run.specs.Headlines.{Headline, WritesCut, WritesLeast}
-use Rattle.sut_run.proofs.Named.{complete-told, for-command, no-command-told, only-balance, read-names, some-command, write-names}
+use Rattle.sut_run.specs.Headlines.{Headline, IsChecked, WritesCut, WritesLeast}
+use Rattle.sut_run.proofs.Named.{complete-told, for-command, no-command-told, read-names, some-command, write-names}
+use Rattle.sut_run.proofs.Words.{has_size, words-sized}
 use Rattle.sut_run.proofs.runs.run.Goals as goal
+
+pub run_generate-requires : goal.run_generate-requires
+run_generate-requires g c =
+    sym (ap has_size (sym c.command_named.ensures ∙ c.in-Some-Generate.is ∙ ap Some c.in-Some-Generate.field-0-is)) ∙ words-sized (map string_bytes c.args.words.now)
 
 pub returns-in-Some-Balance-clause-usage : goal.returns-in-Some-Balance-clause-usage
 returns-in-Some-Balance-clause-usage g c =
-    ((λ e. absurd (c.run_balance.ensures.used e)), (λ e. absurd (some-command (command_of (map string_bytes c.args.words.now)) (sym c.command_named.ensures ∙ c.in-Some-Balance.is ∙ ap Some (only-balance c.in-Some-Balance.field-0)) e)))
+    ((λ e. absurd (c.run_balance.ensures.used e)), (λ e. absurd (some-command (command_of (map string_bytes c.args.words.now)) Balance (sym c.command_named.ensures ∙ c.in-Some-Balance.is ∙ ap Some c.in-Some-Balance.field-0-is) e)))
 
 pub returns-in-Some-Balance-clause-unused : goal.returns-in-Some-Balance-clause-unused
 returns-in-Some-Balance-clause-unused g c e =
-    absurd (some-command (command_of (map string_bytes c.args.words.now)) (sym c.command_named.ensures ∙ c.in-Some-Balance.is ∙ ap Some (only-balance c.in-Some-Balance.field-0)) e)
+    absurd (some-command (command_of (map string_bytes c.args.words.now)) Balance (sym c.command_named.ensures ∙ c.in-Some-Balance.is ∙ ap Some c.in-Some-Balance.field-0-is) e)
 
 pub returns-in-Some-Balance-clause-input : goal.returns-in-Some-Balance-clause-input
 returns-in-Some-Balance-clause-input g c =
-    for-command (command_of (map string_bytes c.args.words.now)) (sym c.command_named.ensures ∙ c.in-Some-Balance.is ∙ ap Some (only-balance c.in-Some-Balance.field-0)) (λ (k : Command). IfSome (g.F.Shelf.files c.args.shelf.now) (λ (files : Files). AnswersInput k files c.run_balance.result)) c.run_balance.ensures.input
+    for-command (command_of (map string_bytes c.args.words.now)) Balance (sym c.command_named.ensures ∙ c.in-Some-Balance.is ∙ ap Some c.in-Some-Balance.field-0-is) (λ (k : Command). IfSome (g.F.Shelf.files c.args.shelf.now) (λ (files : Files). AnswersInput k files c.run_balance.result)) c.run_balance.ensures.input
 
 pub returns-in-Some-Balance-clause-stands : goal.returns-in-Some-Balance-clause-stands
 returns-in-Some-Balance-clause-stands g c =
-    for-command (command_of (map string_bytes c.args.words.now)) (sym c.command_named.ensures ∙ c.in-Some-Balance.is ∙ ap Some (only-balance c.in-Some-Balance.field-0)) (λ (k : Command). Told (g.F.Shelf.files c.args.shelf.now) (g.F.Shelf.files c.run_balance.new.shelf) (Stands k c.run_balance.result (g.K.Sink.sent c.args.out.now) (g.K.Sink.sent c.run_balance.new.out))) c.run_balance.ensures.stands
+    for-command (command_of (map string_bytes c.args.words.now)) Balance (sym c.command_named.ensures ∙ c.in-Some-Balance.is ∙ ap Some c.in-Some-Balance.field-0-is) (λ (k : Command). Told (g.F.Shelf.files c.args.shelf.now) (g.F.Shelf.files c.run_balance.new.shelf) (Stands (map (λ b. new_seat ((g.dyn-1.0.entry b.vtable).1.name b.value) ((g.dyn-1.0.entry b.vtable).1.rule b.value)) c.args.reviewers.items) k c.run_balance.result (g.K.Sink.sent c.args.out.now) (g.K.Sink.sent c.run_balance.new.out))) c.run_balance.ensures.stands
 
 pub returns-in-Some-Balance-clause-read_fault : goal.returns-in-Some-Balance-clause-read_fault
 returns-in-Some-Balance-clause-read_fault g c =
-    read-names (command_of (map string_bytes c.args.words.now)) (sym c.command_named.ensures ∙ c.in-Some-Balance.is ∙ ap Some (only-balance c.in-Some-Balance.field-0)) c.run_balance.result _ _ _ c.run_balance.ensures.read_fault
+    read-names (command_of (map string_bytes c.args.words.now)) Balance (sym c.command_named.ensures ∙ c.in-Some-Balance.is ∙ ap Some c.in-Some-Balance.field-0-is) c.run_balance.result _ _ _ c.run_balance.ensures.read_fault
 
 pub returns-in-Some-Balance-clause-write_fault : goal.returns-in-Some-Balance-clause-write_fault
 returns-in-Some-Balance-clause-write_fault g c =
-    write-names (command_of (map string_bytes c.args.words.now)) (sym c.command_named.ensures ∙ c.in-Some-Balance.is ∙ ap Some (only-balance c.in-Some-Balance.field-0)) c.run_balance.result _ _ _ c.run_balance.ensures.write_fault
+    write-names (command_of (map string_bytes c.args.words.now)) Balance (sym c.command_named.ensures ∙ c.in-Some-Balance.is ∙ ap Some c.in-Some-Balance.field-0-is) c.run_balance.result _ _ _ c.run_balance.ensures.write_fault
 
 pub returns-in-Some-Balance-clause-complete : goal.returns-in-Some-Balance-clause-complete
 returns-in-Some-Balance-clause-complete g c =
-    for-command (command_of (map string_bytes c.args.words.now)) (sym c.command_named.ensures ∙ c.in-Some-Balance.is ∙ ap Some (only-balance c.in-Some-Balance.field-0)) (λ (k : Command). IfSome (g.F.Shelf.files c.args.shelf.now) (λ (files : Files). IsOk (input_of k None files) → ¬ Rose (g.F.Shelf.faults c.args.shelf.now) (g.F.Shelf.faults c.run_balance.new.shelf) → ¬ Rose (g.K.Sink.faults c.args.out.now) (g.K.Sink.faults c.run_balance.new.out) → (c.run_balance.result ≡ NoMemory) ⊎ IsDone c.run_balance.result))
-    (complete-told (g.F.Shelf.files c.args.shelf.now) c.run_balance.result _ _ _ c.run_balance.ensures.input c.run_balance.ensures.read_fault c.run_balance.ensures.write_fault c.run_balance.ensures.sink_fault)
+    for-command (command_of (map string_bytes c.args.words.now)) Balance (sym c.command_named.ensures ∙ c.in-Some-Balance.is ∙ ap Some c.in-Some-Balance.field-0-is) (λ (k : Command). IfSome (g.F.Shelf.files c.args.shelf.now) (λ (files : Files). IsOk (input_of k None files) → ¬ Rose (g.F.Shelf.faults c.args.shelf.now) (g.F.Shelf.faults c.run_balance.new.shelf) → ¬ Rose (g.K.Sink.faults c.args.out.now) (g.K.Sink.faults c.run_balance.new.out) → (c.run_balance.result ≡ NoMemory) ⊎ IsDone c.run_balance.result))
+    (complete-told Balance (g.F.Shelf.files c.args.shelf.now) c.run_balance.result _ _ _ c.run_balance.ensures.input c.run_balance.ensures.read_fault c.run_balance.ensures.write_fault c.run_balance.ensures.sink_fault)
 
 pub returns-in-Some-Balance-clause-balanced : goal.returns-in-Some-Balance-clause-balanced
 returns-in-Some-Balance-clause-balanced g c =
-    for-command (command_of (map string_bytes c.args.words.now)) (sym c.command_named.ensures ∙ c.in-Some-Balance.is ∙ ap Some (only-balance c.in-Some-Balance.field-0)) (λ (k : Command). c.run_balance.result ≡ Balanced → Told (g.F.Shelf.files c.args.shelf.now) (g.F.Shelf.files c.run_balance.new.shelf) (Headline k WritesLeast)) c.run_balance.ensures.balanced
+    for-command (command_of (map string_bytes c.args.words.now)) Balance (sym c.command_named.ensures ∙ c.in-Some-Balance.is ∙ ap Some c.in-Some-Balance.field-0-is) (λ (k : Command). c.run_balance.result ≡ Balanced → IsChecked k × Told (g.F.Shelf.files c.args.shelf.now) (g.F.Shelf.files c.run_balance.new.shelf) (Headline k WritesLeast)) (λ e. (tt, c.run_balance.ensures.balanced e))
 
 pub returns-in-Some-Balance-clause-infeasible : goal.returns-in-Some-Balance-clause-infeasible
 returns-in-Some-Balance-clause-infeasible g c =
-    for-command (command_of (map string_bytes c.args.words.now)) (sym c.command_named.ensures ∙ c.in-Some-Balance.is ∙ ap Some (only-balance c.in-Some-Balance.field-0)) (λ (k : Command). c.run_balance.result ≡ Infeasible → Told (g.F.Shelf.files c.args.shelf.now) (g.F.Shelf.files c.run_balance.new.shelf) (Headline k WritesCut)) c.run_balance.ensures.infeasible
+    for-command (command_of (map string_bytes c.args.words.now)) Balance (sym c.command_named.ensures ∙ c.in-Some-Balance.is ∙ ap Some c.in-Some-Balance.field-0-is) (λ (k : Command). c.run_balance.result ≡ Infeasible → IsChecked k × Told (g.F.Shelf.files c.args.shelf.now) (g.F.Shelf.files c.run_balance.new.shelf) (Headline k WritesCut)) (λ e. (tt, c.run_balance.ensures.infeasible e))
+
+pub returns-in-Some-Generate-clause-usage : goal.returns-in-Some-Generate-clause-usage
+returns-in-Some-Generate-clause-usage g c =
+    ((λ e. absurd (c.run_generate.ensures.used e)), (λ e. absurd (some-command (command_of (map string_bytes c.args.words.now)) (Generate c.in-Some-Generate.seed c.in-Some-Generate.products c.in-Some-Generate.industries) (sym c.command_named.ensures ∙ c.in-Some-Generate.is ∙ ap Some c.in-Some-Generate.field-0-is) e)))
+
+pub returns-in-Some-Generate-clause-unused : goal.returns-in-Some-Generate-clause-unused
+returns-in-Some-Generate-clause-unused g c e =
+    absurd (some-command (command_of (map string_bytes c.args.words.now)) (Generate c.in-Some-Generate.seed c.in-Some-Generate.products c.in-Some-Generate.industries) (sym c.command_named.ensures ∙ c.in-Some-Generate.is ∙ ap Some c.in-Some-Generate.field-0-is) e)
+
+pub returns-in-Some-Generate-clause-input : goal.returns-in-Some-Generate-clause-input
+returns-in-Some-Generate-clause-input g c =
+    for-command (command_of (map string_bytes c.args.words.now)) (Generate c.in-Some-Generate.seed c.in-Some-Generate.products c.in-Some-Generate.industries) (sym c.command_named.ensures ∙ c.in-Some-Generate.is ∙ ap Some c.in-Some-Generate.field-0-is) (λ (k : Command). IfSome (g.F.Shelf.files c.args.shelf.now) (λ (files : Files). AnswersInput k files c.run_generate.result)) c.run_generate.ensures.input
+
+pub returns-in-Some-Generate-clause-stands : goal.returns-in-Some-Generate-clause-stands
+returns-in-Some-Generate-clause-stands g c =
+    for-command (command_of (map string_bytes c.args.words.now)) (Generate c.in-Some-Generate.seed c.in-Some-Generate.products c.in-Some-Generate.industries) (sym c.command_named.ensures ∙ c.in-Some-Generate.is ∙ ap Some c.in-Some-Generate.field-0-is) (λ (k : Command). Told (g.F.Shelf.files c.args.shelf.now) (g.F.Shelf.files c.run_generate.new.shelf) (Stands (map (λ b. new_seat ((g.dyn-1.0.entry b.vtable).1.name b.value) ((g.dyn-1.0.entry b.vtable).1.rule b.value)) c.args.reviewers.items) k c.run_generate.result (g.K.Sink.sent c.args.out.now) (g.K.Sink.sent c.run_generate.new.out))) (c.run_generate.ensures.stands (map (λ b. new_seat ((g.dyn-1.0.entry b.vtable).1.name b.value) ((g.dyn-1.0.entry b.vtable).1.rule b.value)) c.args.reviewers.items))
+
+pub returns-in-Some-Generate-clause-read_fault : goal.returns-in-Some-Generate-clause-read_fault
+returns-in-Some-Generate-clause-read_fault g c =
+    read-names (command_of (map string_bytes c.args.words.now)) (Generate c.in-Some-Generate.seed c.in-Some-Generate.products c.in-Some-Generate.industries) (sym c.command_named.ensures ∙ c.in-Some-Generate.is ∙ ap Some c.in-Some-Generate.field-0-is) c.run_generate.result _ _ _ c.run_generate.ensures.read_fault
+
+pub returns-in-Some-Generate-clause-write_fault : goal.returns-in-Some-Generate-clause-write_fault
+returns-in-Some-Generate-clause-write_fault g c =
+    write-names (command_of (map string_bytes c.args.words.now)) (Generate c.in-Some-Generate.seed c.in-Some-Generate.products c.in-Some-Generate.industries) (sym c.command_named.ensures ∙ c.in-Some-Generate.is ∙ ap Some c.in-Some-Generate.field-0-is) c.run_generate.result _ _ _ c.run_generate.ensures.write_fault
+
+pub returns-in-Some-Generate-clause-complete : goal.returns-in-Some-Generate-clause-complete
+returns-in-Some-Generate-clause-complete g c =
+    for-command (command_of (map string_bytes c.args.words.now)) (Generate c.in-Some-Generate.seed c.in-Some-Generate.products c.in-Some-Generate.industries) (sym c.command_named.ensures ∙ c.in-Some-Generate.is ∙ ap Some c.in-Some-Generate.field-0-is) (λ (k : Command). IfSome (g.F.Shelf.files c.args.shelf.now) (λ (files : Files). IsOk (input_of k None files) → ¬ Rose (g.F.Shelf.faults c.args.shelf.now) (g.F.Shelf.faults c.run_generate.new.shelf) → ¬ Rose (g.K.Sink.faults c.args.out.now) (g.K.Sink.faults c.run_generate.new.out) → (c.run_generate.result ≡ NoMemory) ⊎ IsDone c.run_generate.result))
+    (complete-told (Generate c.in-Some-Generate.seed c.in-Some-Generate.products c.in-Some-Generate.industries) (g.F.Shelf.files c.args.shelf.now) c.run_generate.result _ _ _ c.run_generate.ensures.input c.run_generate.ensures.read_fault c.run_generate.ensures.write_fault c.run_generate.ensures.sink_fault)
+
+pub returns-in-Some-Generate-clause-balanced : goal.returns-in-Some-Generate-clause-balanced
+returns-in-Some-Generate-clause-balanced g c =
+    for-command (command_of (map string_bytes c.args.words.now)) (Generate c.in-Some-Generate.seed c.in-Some-Generate.products c.in-Some-Generate.industries) (sym c.command_named.ensures ∙ c.in-Some-Generate.is ∙ ap Some c.in-Some-Generate.field-0-is) (λ (k : Command). c.run_generate.result ≡ Balanced → IsChecked k × Told (g.F.Shelf.files c.args.shelf.now) (g.F.Shelf.files c.run_generate.new.shelf) (Headline k WritesLeast)) (λ e. absurd (c.run_generate.ensures.balanced e))
+
+pub returns-in-Some-Generate-clause-infeasible : goal.returns-in-Some-Generate-clause-infeasible
+returns-in-Some-Generate-clause-infeasible g c =
+    for-command (command_of (map string_bytes c.args.words.now)) (Generate c.in-Some-Generate.seed c.in-Some-Generate.products c.in-Some-Generate.industries) (sym c.command_named.ensures ∙ c.in-Some-Generate.is ∙ ap Some c.in-Some-Generate.field-0-is) (λ (k : Command). c.run_generate.result ≡ Infeasible → IsChecked k × Told (g.F.Shelf.files c.args.shelf.now) (g.F.Shelf.files c.run_generate.new.shelf) (Headline k WritesCut)) (λ e. absurd (c.run_generate.ensures.infeasible e))
 
 pub returns-in-None-clause-usage : goal.returns-in-None-clause-usage
 returns-in-None-clause-usage g c =
@@ -62,7 +106,7 @@ returns-in-None-clause-input g c =
 
 pub returns-in-None-clause-stands : goal.returns-in-None-clause-stands
 returns-in-None-clause-stands g c =
-    subst (λ o. IfSome o (λ (k : Command). Told (g.F.Shelf.files c.args.shelf.now) (g.F.Shelf.files c.args.shelf.now) (Stands k Usage (g.K.Sink.sent c.args.out.now) (g.K.Sink.sent c.args.out.now)))) (sym (sym c.command_named.ensures ∙ c.in-None.is)) tt
+    subst (λ o. IfSome o (λ (k : Command). Told (g.F.Shelf.files c.args.shelf.now) (g.F.Shelf.files c.args.shelf.now) (Stands (map (λ b. new_seat ((g.dyn-1.0.entry b.vtable).1.name b.value) ((g.dyn-1.0.entry b.vtable).1.rule b.value)) c.args.reviewers.items) k Usage (g.K.Sink.sent c.args.out.now) (g.K.Sink.sent c.args.out.now)))) (sym (sym c.command_named.ensures ∙ c.in-None.is)) tt
 
 pub returns-in-None-clause-complete : goal.returns-in-None-clause-complete
 returns-in-None-clause-complete g c =
@@ -70,8 +114,8 @@ returns-in-None-clause-complete g c =
 
 pub returns-in-None-clause-balanced : goal.returns-in-None-clause-balanced
 returns-in-None-clause-balanced g c =
-    subst (λ o. IfSome o (λ (k : Command). Usage ≡ Balanced → Told (g.F.Shelf.files c.args.shelf.now) (g.F.Shelf.files c.args.shelf.now) (Headline k WritesLeast))) (sym (sym c.command_named.ensures ∙ c.in-None.is)) tt
+    subst (λ o. IfSome o (λ (k : Command). Usage ≡ Balanced → IsChecked k × Told (g.F.Shelf.files c.args.shelf.now) (g.F.Shelf.files c.args.shelf.now) (Headline k WritesLeast))) (sym (sym c.command_named.ensures ∙ c.in-None.is)) tt
 
 pub returns-in-None-clause-infeasible : goal.returns-in-None-clause-infeasible
 returns-in-None-clause-infeasible g c =
-    subst (λ o. IfSome o (λ (k : Command). Usage ≡ Infeasible → Told (g.F.Shelf.files c.args.shelf.now) (g.F.Shelf.files c.args.shelf.now) (Headline k WritesCut))) (sym (sym c.command_named.ensures ∙ c.in-None.is)) tt
+    subst (λ o. IfSome o (λ (k : Command). Usage ≡ Infeasible → IsChecked k × Told (g.F.Shelf.files c.args.shelf.now) (g.F.Shelf.files c.args.shelf.now) (Headline k WritesCut))) (sym (sym c.command_named.ensures ∙ c.in-None.is)) tt
