@@ -7,9 +7,7 @@ fn generate_command(alloc: Global) -> Result<Command<'static>, AllocError> {
     let seed = Arg::new(alloc, "SEED")
         .required(true)
         .help("0 to 2147483647");
-    let products = Arg::new(alloc, "PRODUCTS")
-        .required(true)
-        .help("1 to 512");
+    let products = Arg::new(alloc, "PRODUCTS").required(true).help("1 to 512");
     let industries = Arg::new(alloc, "INDUSTRIES")
         .required(true)
         .help("1 to 256; at most 131072 rows in all");
@@ -22,8 +20,9 @@ fn generate_command(alloc: Global) -> Result<Command<'static>, AllocError> {
 
 /// The help text.
 pub(crate) fn help_text(alloc: Global) -> Result<String, AllocError> {
-    let balance = Command::new(alloc, "balance")
-        .about("Balances the year of settings.toml, classes.csv and source.csv in the current folder");
+    let balance = Command::new(alloc, "balance").about(
+        "Balances the year of settings.toml, classes.csv and source.csv in the current folder",
+    );
     let generate = generate_command(alloc)?;
     let mut command = Command::new(alloc, "sut")
         .about("Balances supply and use tables")
