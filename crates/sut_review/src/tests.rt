@@ -60,6 +60,30 @@ impl Reviewer for Odd {
     }
 }
 
+// The review of a rule of the caller's own beside one of this crate.
+fn two_rules(alloc: Global, p: &Problem, t: &Table) -> Result<Vec<u8>, NoMemory>
+    requires { IsTableOf p.now t.now }
+{
+    let at_bound = Box::new(alloc, AtBound::new())?;
+    let odd = Box::new(alloc, Odd { tally: 0 })?;
+    let panel = panel_of(alloc, at_bound, odd)?;
+    reviewed(alloc, panel, p, t)
+}
+
+// What was answered.
+type Answers = (Option<usize>, bool, bool, Option<usize>);
+
+// The answers and the review of two reviewers with one label, of which the first is dismissed.
+fn one_label(alloc: Global, p: &Problem, t: &Table) -> Result<(Answers, Vec<u8>), NoMemory>
+    requires { IsTableOf p.now t.now }
+{
+    let one = Box::new(alloc, FarFrom::new(1))?;
+    let five = Box::new(alloc, FarFrom::new(5))?;
+    let mut panel = panel_of(alloc, one, five)?;
+    let answers = dismiss_twice(&mut panel, b"far_from");
+    Ok((answers, reviewed(alloc, panel, p, t)?))
+}
+
 const CLASSES: &[u8] = b"axis,code,kind\nproduct,X,plain\nindustry,A,\nfinal,F,\nitem,V,\n";
 
 // A panel of two reviewers.
@@ -90,7 +114,7 @@ fn reviewed(alloc: Global, mut panel: Panel, p: &Problem, t: &Table) -> Result<V
 }
 
 // Dismisses the first with a label twice, and says where one stands before and after, and what was answered.
-fn dismiss_twice(panel: &mut Panel, label: &[u8]) -> (Option<usize>, bool, bool, Option<usize>)
+fn dismiss_twice(panel: &mut Panel, label: &[u8]) -> Answers
     ensures shown { panel.new.shown ≡ panel.old.shown }
     ensures room { All (HasRoom panel.old.shown) (seats_of panel.old.seats.items (λ seat. seat_of (λ b. rule b) (λ b. marked b) seat.label.items seat.seen seat.tally seat.object)) → All (HasRoom panel.new.shown) (seats_of panel.new.seats.items (λ seat. seat_of (λ b. rule b) (λ b. marked b) seat.label.items seat.seen seat.tally seat.object)) }
 {
@@ -127,16 +151,14 @@ fn small(rt: &impl Abort, alloc: Global) -> Result<Problem, Fail> {
 const TABLE: &str =
     "kind,a,b,c,target,value\nmake,X,A,,100,105\nbasic,X,F,,99,105\nadded,V,A,,0,0\npurchase,X,F,,,105\nsupply,X,,,,105\noutput,A,,,,105\nvalue_added,A,,,,0\nitem_total,V,,,,0\nfinal_total,F,,,,105\ngdp,,,,,105\n";
 
-/// A rule of the caller's own beside one of this crate.
+/// Each reviewer counts by its rule.
 #[test]
 fn a_panel_counts_by_rule(rt: HostRuntime) -> Result<(), Fail> {
     let problem = small(&rt, rt.alloc())?;
     let table = read_balanced(rt.alloc(), &problem, TABLE.as_bytes())?;
-    let at_bound = Box::new(rt.alloc(), AtBound::new())?;
-    let odd = Box::new(rt.alloc(), Odd { tally: 0 })?;
-    let panel = panel_of(rt.alloc(), at_bound, odd)?;
+    let review = two_rules(rt.alloc(), &problem, &table)?;
     assert_eq!(rt;
-        reviewed(rt.alloc(), panel, &problem, &table)?.as_slice(),
+        review.as_slice(),
         b"label,seen,tally,standing\nat_bound,1,1,yes\n,1,2,yes\n".as_slice()
     );
     Ok(())
@@ -147,13 +169,10 @@ fn a_panel_counts_by_rule(rt: HostRuntime) -> Result<(), Fail> {
 fn the_first_is_dismissed_first(rt: HostRuntime) -> Result<(), Fail> {
     let problem = small(&rt, rt.alloc())?;
     let table = read_balanced(rt.alloc(), &problem, TABLE.as_bytes())?;
-    let one = Box::new(rt.alloc(), FarFrom::new(1))?;
-    let five = Box::new(rt.alloc(), FarFrom::new(5))?;
-    let mut panel = panel_of(rt.alloc(), one, five)?;
-    let answers = dismiss_twice(&mut panel, b"far_from");
+    let (answers, review) = one_label(rt.alloc(), &problem, &table)?;
     assert_eq!(rt; answers, (Some(0), true, false, Some(1)));
     assert_eq!(rt;
-        reviewed(rt.alloc(), panel, &problem, &table)?.as_slice(),
+        review.as_slice(),
         b"label,seen,tally,standing\nfar_from,0,0,no\nfar_from,1,1,yes\n".as_slice()
     );
     Ok(())
