@@ -73,8 +73,16 @@ fn one_product(rt: HostRuntime) -> Result<(), Fail> {
         (FileName::SourceCsv, GAP),
     ];
     assert!(rt; accepts(rt.alloc(), &files, 0, "least\ncost 8\n")?);
-    let cases: [Case; 5] = [
+    let cases: [Case; 6] = [
         (FLAT, SMALL, "", 0, "least\ncost 0\n"),
+        // Amounts at the ends of their range: unit steps would never end.
+        (
+            FLAT,
+            SMALL,
+            "make,X,A,,-1000000000000,,1000000000000,1000000000000\nbasic,X,F,,0,,,\nadded,V,A,,,,0,1000000000000\n",
+            0,
+            "least\ncost 5000000000000000000000000\n",
+        ),
         (
             FLAT,
             SMALL,
