@@ -7,8 +7,6 @@ pub mod laws;
 mod panel;
 mod reviewer;
 mod seats;
-#[cfg(test)]
-mod tests;
 
 pub use at_bound::AtBound;
 pub use far_from::FarFrom;

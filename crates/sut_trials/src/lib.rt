@@ -18,6 +18,4 @@ mod made;
 #[cfg(test)]
 mod refused;
 #[cfg(test)]
-mod reviews;
-#[cfg(test)]
 mod years;

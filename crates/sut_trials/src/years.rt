@@ -1,11 +1,8 @@
 //! The three files of a year, and runs over them.
 
-ghost use Rattle.std.specs.Prelude.{◌≡◌, All};
-
 use std::alloc::Global;
 use std::test::Fail;
 use sut_outside::{FileName, MemoryShelf, Shelf, Sink, SteadyShelf};
-use sut_review::Reviewer;
 use sut_run::{Status, run};
 
 pub(crate) const FLAT: &str = "scheme = \"flat\"\n";
@@ -67,17 +64,4 @@ pub(crate) fn ends<F: Shelf, K: Sink>(
         list.push(String::from_str(alloc, word)?)?;
     }
     Ok(run(alloc, &list, shelf, out, Vec::new(alloc)))
-}
-
-/// How a run of `balance` ends, with these reviewers.
-pub(crate) fn ends_reviewed<F: Shelf, K: Sink>(
-    alloc: Global,
-    shelf: &mut F,
-    out: &mut K,
-    reviewers: Vec<Box<dyn Reviewer>>,
-) -> Result<Status, Fail>
-    requires { All (λ b. marked b ≡ 0) reviewers.items }
-{
-    let list = vec![in alloc; String::from_str(alloc, "balance")?]?;
-    Ok(run(alloc, &list, shelf, out, reviewers))
 }

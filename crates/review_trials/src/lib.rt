@@ -1,0 +1,5 @@
+//! Tests of whole runs with reviewers.
+#![tactic(auto)]
+
+#[cfg(test)]
+mod reviews;
