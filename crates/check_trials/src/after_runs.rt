@@ -1,11 +1,12 @@
 //! What a run has written, checked on the same shelf.
 
-use crate::written::{FLAT, GAP, SMALL, ends, steady};
+use crate::written::{GAP, ends, words_of};
 use std::alloc::Global;
 use std::process::Abort;
 use std::test::Fail;
 use sut_outside::{FileName, MemorySink};
 use sut_run::run;
+use trial_shelf::{FLAT, SMALL, SOURCE_HEADER, steady};
 
 /// Whether a run with the word `balance` over these files ends with this number, and then the check does, and prints these
 /// lines.
@@ -17,8 +18,7 @@ pub(crate) fn accepts(
 ) -> Result<bool, Fail> {
     let mut shelf = steady(alloc, files)?;
     let mut out = MemorySink::new(alloc, 1000, Vec::new(alloc))?;
-    let mut words = Vec::new(alloc);
-    words.push(String::from_str(alloc, "balance")?)?;
+    let words = words_of(alloc, &["balance"])?;
     let status = run(alloc, &words, &mut shelf, &mut out, Vec::new(alloc));
     let mut lines = MemorySink::new(alloc, 1000, Vec::new(alloc))?;
     let checked = ends(alloc, &[], &mut shelf, &mut lines)?;
@@ -28,11 +28,9 @@ pub(crate) fn accepts(
 /// Settings, classes, rows, the number with which run and check end, and the lines of the check.
 type Case = (&'static str, &'static str, &'static str, u8, &'static str);
 
-const HEADER: &str = "kind,a,b,c,target,grade,lower,upper\n";
-
 fn check(rt: &impl Abort, alloc: Global, cases: &[Case]) -> Result<(), Fail> {
     for (settings, classes, rows, code, printed) in cases {
-        let mut source = String::from_str(alloc, HEADER)?;
+        let mut source = String::from_str(alloc, SOURCE_HEADER)?;
         source.push_str(rows)?;
         let files = [
             (FileName::SettingsToml, *settings),

@@ -1,9 +1,10 @@
 //! Sets of accounts: accepted, refused, and not read. No table is read with them.
 
-use crate::written::{Change, FLAT, GAP, SMALL, check_changes, says, steady};
+use crate::written::{Change, GAP, check_changes, says};
 use std::alloc::Global;
 use std::test::Fail;
 use sut_outside::{FileName, SteadyShelf};
+use trial_shelf::{FLAT, SMALL, steady};
 
 /// The make may be 90 at most, the basic has to be 95 at least.
 const NARROW: &str =

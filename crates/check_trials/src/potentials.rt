@@ -1,8 +1,9 @@
 //! Potentials and their table: accepted, refused, and not read.
 
-use crate::written::{Change, GAP, WRITTEN, check_changes, says, steady};
+use crate::written::{Change, GAP, WRITTEN, check_changes, says};
 use std::test::Fail;
 use sut_outside::FileName;
+use trial_shelf::steady;
 
 const OK: &str = "sutcheck: ok\n";
 

@@ -5,11 +5,7 @@ use std::process::Abort;
 use std::test::Fail;
 use sut_check::{CheckStatus, check_run};
 use sut_outside::{FileName, MemorySink, Shelf, Sink, SteadyShelf};
-
-pub(crate) const FLAT: &str = "scheme = \"flat\"\n";
-
-/// One product, one industry, one final use, one item.
-pub(crate) const SMALL: &str = "axis,code,kind\nproduct,X,plain\nindustry,A,\nfinal,F,\nitem,V,\n";
+use trial_shelf::{FLAT, SMALL, steady};
 
 /// Supply and use that are 4 apart.
 pub(crate) const GAP: &str =
@@ -31,15 +27,6 @@ pub(crate) const WRITTEN: [(FileName, &'static str); 5] = [
     (FileName::BalancedCsv, TABLE),
 ];
 
-/// A shelf with these files, which never fails.
-pub(crate) fn steady(alloc: Global, files: &[(FileName, &str)]) -> Result<SteadyShelf, Fail> {
-    let mut shelf = SteadyShelf::new(alloc);
-    for (name, text) in files {
-        shelf.place(*name, text.as_bytes())?;
-    }
-    Ok(shelf)
-}
-
 /// The text with this part replaced.
 pub(crate) fn replaced(alloc: Global, text: &str, old: &str, new: &str) -> Result<String, Fail> {
     let (head, tail) = text.split_once(old).ok_or("no such part")?;
@@ -49,6 +36,15 @@ pub(crate) fn replaced(alloc: Global, text: &str, old: &str, new: &str) -> Resul
     Ok(other)
 }
 
+/// The words of a command.
+pub(crate) fn words_of(alloc: Global, words: &[&str]) -> Result<Vec<String>, Fail> {
+    let mut list = Vec::new(alloc);
+    for word in words {
+        list.push(String::from_str(alloc, word)?)?;
+    }
+    Ok(list)
+}
+
 /// How the check with these words ends.
 pub(crate) fn ends<F: Shelf, K: Sink>(
     alloc: Global,
@@ -56,10 +52,7 @@ pub(crate) fn ends<F: Shelf, K: Sink>(
     shelf: &mut F,
     out: &mut K,
 ) -> Result<CheckStatus, Fail> {
-    let mut list = Vec::new(alloc);
-    for word in words {
-        list.push(String::from_str(alloc, word)?)?;
-    }
+    let list = words_of(alloc, words)?;
     Ok(check_run(alloc, &list, shelf, out))
 }
 

@@ -4,16 +4,10 @@ use std::alloc::Global;
 use std::test::Fail;
 use sut_outside::{FileName, MemoryShelf, Shelf, Sink, SteadyShelf};
 use sut_run::{Status, run};
-
-pub(crate) const FLAT: &str = "scheme = \"flat\"\n";
-
-/// One product, one industry, one final use, one item.
-pub(crate) const SMALL: &str = "axis,code,kind\nproduct,X,plain\nindustry,A,\nfinal,F,\nitem,V,\n";
+pub(crate) use trial_shelf::{FLAT, SMALL, SOURCE_HEADER};
 
 /// Supply and use that are 4 apart.
 pub(crate) const GAP: &str = "make,X,A,,100,,,\nbasic,X,F,,104,,,\nadded,V,A,,,,0,1000\n";
-
-pub(crate) const SOURCE_HEADER: &str = "kind,a,b,c,target,grade,lower,upper\n";
 
 /// The texts of a year; the source without its header.
 #[derive(Clone, Copy)]
@@ -32,11 +26,12 @@ pub(crate) fn joined(alloc: Global, head: &str, rest: &str) -> Result<String, Fa
 /// A shelf with the files of the year, which never fails.
 pub(crate) fn steady(alloc: Global, year: &Year<'_>) -> Result<SteadyShelf, Fail> {
     let source = joined(alloc, SOURCE_HEADER, year.rows)?;
-    let mut shelf = SteadyShelf::new(alloc);
-    shelf.place(FileName::SettingsToml, year.settings.as_bytes())?;
-    shelf.place(FileName::ClassesCsv, year.classes.as_bytes())?;
-    shelf.place(FileName::SourceCsv, source.as_bytes())?;
-    Ok(shelf)
+    let files = [
+        (FileName::SettingsToml, year.settings),
+        (FileName::ClassesCsv, year.classes),
+        (FileName::SourceCsv, source.as_str()),
+    ];
+    Ok(trial_shelf::steady(alloc, &files)?)
 }
 
 /// Puts the files of the year on a shelf.
