@@ -10,6 +10,8 @@ mod devices;
 #[cfg(test)]
 mod lines;
 #[cfg(test)]
+mod made;
+#[cfg(test)]
 mod potentials;
 #[cfg(test)]
 mod realistic;
