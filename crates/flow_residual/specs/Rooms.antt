@@ -14,6 +14,7 @@ pub record IsRoomFor (nodes : ℕ) (room : Room) : Type 0 where
   pub by : vec_len room.by ≡ nodes
   pub heap : vec_len room.heap ≡ nodes
   pub place : vec_len room.place ≡ nodes
+  pub aside : vec_len room.aside ≡ nodes
 
 -- each node on the way was reached by the arc of its move
 abbrev pub ReachedBy : Room → List Move → List ℕ → Type 0
@@ -31,6 +32,7 @@ pub record ChangesHeapAlone (old new : Room) : Type 0 where
   pub dist : new.dist.items ≡ old.dist.items
   pub by : new.by.items ≡ old.by.items
   pub place : new.place.items ≡ old.place.items
+  pub aside : new.aside.items ≡ old.aside.items
   pub source : new.source ≡ old.source
   pub last : new.last ≡ old.last
 

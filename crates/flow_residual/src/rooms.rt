@@ -6,7 +6,7 @@ use flow_graph::{ArcId, Name, NodeId};
 use no_memory::NoMemory;
 use std::alloc::Global;
 
-/// What a search writes, and what `augment` reads: one entry for each node, and the ends of the path.
+/// What a search and a solver write, and what `augment` reads: one entry for each node, and the ends of the path.
 #[derive(Debug, Drop)]
 pub struct Room {
     /// The nodes reached.
@@ -16,6 +16,8 @@ pub struct Room {
     pub by: Vec<Option<ArcId>>,
     pub heap: Vec<NodeId>,
     pub place: Vec<u32>,
+    /// The nodes that a solver has put aside. A search only leaves them as they are.
+    pub aside: Vec<bool>,
     pub source: NodeId,
     pub last: NodeId,
 }
@@ -47,12 +49,14 @@ impl Room {
         let by = filled(alloc, count, None)?;
         let heap = filled(alloc, count, NodeId(0))?;
         let place = filled(alloc, count, 0)?;
+        let aside = filled(alloc, count, false)?;
         Ok(Room {
             set,
             dist,
             by,
             heap,
             place,
+            aside,
             source: NodeId(0),
             last: NodeId(0),
         })

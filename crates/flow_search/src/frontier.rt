@@ -22,6 +22,7 @@ pub(crate) fn start(room: &mut Room, source: NodeId)
     requires there { source.0 < vec_len room.old.set }
     ensures labels { labels_of room.new ≡ at_start (vec_len room.old.set) source.0 }
     ensures source { room.new.source ≡ source }
+    ensures aside { room.new.aside ≡ room.old.aside }
     ensures room { IsRoomFor (vec_len room.old.set) room.new }
 {
     fill(&mut room.set, false);
@@ -66,6 +67,7 @@ pub(crate) fn take_nearest(room: &mut Room) -> Option<NodeId>
     ensures taken { MatchOption result (TakesNone (labels_of room.old) (labels_of room.new)) (λ u. Takes (labels_of room.old) (labels_of room.new) u.0) }
     ensures there { MatchOption result (Unit {0}) (λ u. u.0 < vec_len room.old.set) }
     ensures source { room.new.source ≡ room.old.source }
+    ensures aside { room.new.aside ≡ room.old.aside }
     ensures room { IsRoomFor (vec_len room.old.set) room.new }
 {
     let u = nearest(&room.set, &room.dist)?;
@@ -79,6 +81,7 @@ pub(crate) fn offer(room: &mut Room, v: NodeId, d: i128, a: ArcId)
     requires there { v.0 < vec_len room.old.set }
     ensures offered { Declines (labels_of room.old) (labels_of room.new) v.0 d ⊎ Accepts (labels_of room.old) (labels_of room.new) v.0 d a }
     ensures source { room.new.source ≡ room.old.source }
+    ensures aside { room.new.aside ≡ room.old.aside }
     ensures room { IsRoomFor (vec_len room.old.set) room.new }
 {
     let before = room.dist[v.0 as usize];

@@ -53,6 +53,7 @@ fn relax_move<N: Name, A: Name, C: Cost>(
     ensures lowered { IsLowered (labels_of room.old) (labels_of room.new) }
     ensures relaxed { RelaxesMove C.value_at step s.now (labels_of room.new) u.0 (record { arc = a.0; up = up }) }
     ensures source { room.new.source ≡ room.old.source }
+    ensures aside { room.new.aside ≡ room.old.aside }
     ensures room { IsRoomFor (length s.now.graph.nodes) room.new }
 {
     if let Some((v, price)) = edge(s, u, a, up, step) {
@@ -79,6 +80,7 @@ pub(crate) fn relax<N: Name, A: Name, C: Cost>(
     ensures lowered { IsLowered (labels_of room.old) (labels_of room.new) }
     ensures relaxed { RelaxesAll C.value_at step s.now (labels_of room.new) u.0 }
     ensures source { room.new.source ≡ room.old.source }
+    ensures aside { room.new.aside ≡ room.old.aside }
     ensures room { IsRoomFor (length s.now.graph.nodes) room.new }
 {
     for a in s.graph().arcs_at(u) {

@@ -42,6 +42,9 @@ pub fn search<N: Name, A: Name, C: Cost>(
     ensures closed { (result ≡ Found.Closed) ↔ ((n : ℕ) → n < length s.old.graph.nodes → IsSink s.old step n → Reaches s.old step source.0 n → ⊥) }
     ensures set { result ≡ Found.Closed → (n : ℕ) → n < length s.old.graph.nodes → (slice_get room.new.set.items n ≡ Some true) ↔ Reaches s.old step source.0 n }
     ensures stays { result ≡ Found.Closed → s.new ≡ s.old }
+
+    // What a solver has put aside stays aside.
+    ensures aside { room.new.aside ≡ room.old.aside }
     ensures room { IsRoomFor (length s.new.graph.nodes) room.new }
 {
     // The graph's limits bound what follows.

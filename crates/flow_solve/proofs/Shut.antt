@@ -144,10 +144,18 @@ shut_both step s p q h k = record {
 pub shut_priced : {N A C : Type 0} (step : ℤ) (s : Flow N A C) (potentials : List ℤ) (set : ℕ → Bool) → IsShut step s set → IsShut step (record s { potentials = potentials }) set
 shut_priced step s potentials set h = record { leaving = h.leaving; entering = h.entering; no_sink = h.no_sink }
 
--- no node is in the empty set
-pub shut_none : {N A C : Type 0} (step : ℤ) (s : Flow N A C) → IsShut step s (λ n. false)
-shut_none step s = record {
-  leaving = λ a arc x ea ex t h. absurd (cc);
-  entering = λ a arc x ea ex h t. absurd (cc);
-  no_sink = λ n l e. absurd (cc);
+-- it matters alone which nodes are in the set
+pub shut_same : {N A C : Type 0} (step : ℤ) (s : Flow N A C) (p q : ℕ → Bool) → ((n : ℕ) → q n ≡ p n) → IsShut step s p → IsShut step s q
+shut_same step s p q e h = record {
+  leaving = λ a arc x ea ex t o. h.leaving a arc x ea ex (sym (e arc.tail) ∙ t) (sym (e arc.head) ∙ o);
+  entering = λ a arc x ea ex i o. h.entering a arc x ea ex (sym (e arc.head) ∙ i) (sym (e arc.tail) ∙ o);
+  no_sink = λ n l i. h.no_sink n l (sym (e n) ∙ i);
+}
+
+-- a set without nodes
+pub shut_none : {N A C : Type 0} (step : ℤ) (s : Flow N A C) (set : ℕ → Bool) → ((n : ℕ) → set n ≡ false) → IsShut step s set
+shut_none step s set none = record {
+  leaving = λ a arc x ea ex t h. let k = none arc.tail in absurd (cc);
+  entering = λ a arc x ea ex h t. let k = none arc.head in absurd (cc);
+  no_sink = λ n l e. let k = none n in absurd (cc);
 }

@@ -28,12 +28,10 @@ module _ {N A C : Type 0} where
     pub shut : IsShut step s set
     pub spent : (n : ℕ) → n < length s.graph.nodes → set n ≡ false → excess_of s n <ℤ step
 
-  -- so far as the nodes below n go. Where the marks stand, they mark nodes of the set alone
-  pub record IsPassed (step : ℤ) (s : Flow N A C) (marks : List Bool) (stand : Bool) (n : ℕ) : Type 0 where
-    pub set : ℕ → Bool
-    pub shut : IsShut step s set
-    pub spent : (k : ℕ) → k < n → k < length s.graph.nodes → set k ≡ false → excess_of s k <ℤ step
-    pub marked : stand ≡ true → (k : ℕ) → in_set marks k ≡ true → set k ≡ true
+  -- so far as the nodes below n go: the nodes put aside are a set that is shut
+  pub record IsPassed (step : ℤ) (s : Flow N A C) (aside : List Bool) (n : ℕ) : Type 0 where
+    pub shut : IsShut step s (in_set aside)
+    pub spent : (k : ℕ) → k < n → k < length s.graph.nodes → in_set aside k ≡ false → excess_of s k <ℤ step
 
   -- the surplus that these flows leave can fall by this much at most: some set keeps it from falling further
   pub record FallsAtMost (most : ℤ) (s : Flow N A C) (flows : List ℤ) : Type 0 where

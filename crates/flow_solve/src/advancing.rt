@@ -29,6 +29,7 @@ fn advance<N: Name, A: Name, C: Cost, L: Ledger>(
     ensures stays { result ≡ false → Stays C.value_at step s.old s.new }
     ensures closed { result ≡ false → IsClosedOff step s.new source.0 room.new.set.items }
     ensures no_tick { result ≡ false → steps.new ≡ steps.old }
+    ensures aside { room.new.aside.items ≡ room.old.aside.items }
     ensures room { IsRoomFor (length s.new.graph.nodes) room.new }
 {
     bring_near(s, room);
@@ -58,6 +59,7 @@ pub(crate) fn drain<N: Name, A: Name, C: Cost, L: Ledger>(
     ensures spent { IsTrue result → excess_of s.new source.0 <ℤ step }
     ensures underway { IsUnderway C.value_at step s.old s.new steps.old steps.new }
     ensures closed { result ≡ false → IsClosedOff step s.new source.0 room.new.set.items }
+    ensures aside { room.new.aside.items ≡ room.old.aside.items }
     ensures room { IsRoomFor (length s.new.graph.nodes) room.new }
 {
     while s.excess(source) >= step as i128 {

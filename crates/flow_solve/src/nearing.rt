@@ -37,6 +37,7 @@ pub(crate) fn bring_near<N: Name, A: Name, C: Cost>(s: &mut State<N, A, C>, room
     ensures potentials { ArePotentials (pos (2 * 10 ^ 22)) (length s.new.graph.nodes) s.new.potentials }
     ensures rest { s.new ≡ record s.old { potentials = s.new.potentials } }
     ensures condition { (step : ℤ) → IsStep step → MeetsAll C.value_at step s.old → MeetsAll C.value_at step s.new }
+    ensures aside { room.new.aside.items ≡ room.old.aside.items }
     ensures room { IsRoomFor (length s.new.graph.nodes) room.new }
 {
     if are_near(s) {

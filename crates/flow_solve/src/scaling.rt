@@ -1,10 +1,10 @@
 //! Large steps first, which halve from scale to scale until unit steps are left (capacity scaling: Edmonds and Karp 1972;
 //! for convex costs Ahuja, Magnanti and Orlin 1993, chapter 14).
-ghost use Rattle.std.specs.Prelude.{◌≡◌, ◌↔◌, ℕ, ◌+◌, ◌*◌, ◌^◌, ◌<◌, ◌≤◌, ◌⊎◌, true, false, ℤ, pos, ◌+ℤ◌, ◌≤ℤ◌, ◌<ℤ◌, length, vec_len, IsTrue};
+ghost use Rattle.std.specs.Prelude.{◌≡◌, ◌↔◌, ℕ, ◌+◌, ◌*◌, ◌^◌, ◌<◌, ◌≤◌, false, ◌||◌, ℤ, pos, ◌+ℤ◌, ◌≤ℤ◌, ◌<ℤ◌, length, vec_len, IsTrue};
 ghost use Rattle.std.specs.Int.{int_max};
 ghost use Rattle.flow_cost.specs.Cost.{IsWithin};
 ghost use Rattle.flow_graph.specs.Contradiction.{in_set};
-ghost use Rattle.flow_residual.specs.Flows.{IsStep, MeetsAll, excess_of};
+ghost use Rattle.flow_residual.specs.Flows.{IsStep, MeetsAll};
 ghost use Rattle.flow_residual.specs.Rooms.{IsRoomFor};
 ghost use Rattle.flow_solve.specs.Bounds.{surplus, size_of};
 ghost use Rattle.flow_solve.specs.Progress.{IsUnderway};
@@ -92,51 +92,67 @@ fn first_scale(size: u32, excess: i128) -> u32
     k
 }
 
-/// Whether a node has an excess of the step, and is not put aside.
-fn is_due<N: Name, A: Name, C: Cost>(
-    s: &State<N, A, C>,
-    room: &Room,
-    aside: bool,
-    n: NodeId,
-    step: i64,
-) -> bool
-    requires there { n.0 < length s.now.graph.nodes }
-    requires room { IsRoomFor (length s.now.graph.nodes) room.now }
-    ensures due { IsTrue result → step ≤ℤ excess_of s.now n.0 }
-    ensures rest { result ≡ false → (excess_of s.now n.0 <ℤ step) ⊎ (IsTrue aside × (in_set room.now.set.items n.0 ≡ true)) }
+/// Marks what is marked in another list too.
+fn add_marks(marks: &mut [bool], more: &[bool])
+    requires { length marks.old ≡ length more.now }
+    ensures counted { length marks.new ≡ length marks.old }
+    ensures added { (n : ℕ) → in_set marks.new n ≡ (in_set marks.old n || in_set more.now n) }
 {
-    s.excess(n) >= step as i128 && !(aside && room.in_set(n))
+    for n in 0..more.len() {
+        if more[n] {
+            marks[n] = true;
+        }
+    }
 }
 
-/// Moves the step from a node until its excess is below it, or until it is in a set that no step can leave. Answers whether
-/// the room's set is such a one. Its nodes are put aside whole, until the next search.
+/// Puts the nodes of the room's set aside, beside those that are.
+fn put_aside(room: &mut Room)
+    requires { IsRoomFor (vec_len room.old.set) room.old }
+    ensures added { (n : ℕ) → in_set room.new.aside.items n ≡ (in_set room.old.aside.items n || in_set room.old.set.items n) }
+    ensures room { IsRoomFor (vec_len room.old.set) room.new }
+{
+    add_marks(&mut room.aside, &room.set);
+}
+
+/// Puts no node aside.
+fn put_none_aside(room: &mut Room)
+    requires { IsRoomFor (vec_len room.old.set) room.old }
+    ensures none { (n : ℕ) → in_set room.new.aside.items n ≡ false }
+    ensures room { IsRoomFor (vec_len room.old.set) room.new }
+{
+    room.aside.fill(false);
+}
+
+/// Moves the step from a node until its excess is below it, or until no step can leave the nodes that it reaches: these are
+/// put aside.
 fn drain_or_put_aside<N: Name, A: Name, C: Cost, L: Ledger>(
     s: &mut State<N, A, C>,
     room: &mut Room,
     steps: &mut Steps<L>,
-    aside: bool,
     n: NodeId,
     step: i64,
-) -> bool
+)
     requires step { IsStep step }
     requires there { n.0 < length s.old.graph.nodes }
     requires condition { MeetsAll C.value_at step s.old }
-    requires passed { IsPassed step s.old room.old.set.items aside n.0 }
+    requires passed { IsPassed step s.old room.old.aside.items n.0 }
     requires room { IsRoomFor (length s.old.graph.nodes) room.old }
     ensures underway { IsUnderway C.value_at step s.old s.new steps.old steps.new }
-    ensures passed { IsPassed step s.new room.new.set.items result (n.0 + 1) }
+    ensures passed { IsPassed step s.new room.new.aside.items (n.0 + 1) }
     ensures room { IsRoomFor (length s.new.graph.nodes) room.new }
 {
     // The arcs' ends are nodes.
     s.graph();
-    if !is_due(s, room, aside, n, step) {
-        return aside;
+    if room.aside[n.0 as usize] {
+        return;
     }
-    !drain(s, room, steps, n, step)
+    if !drain(s, room, steps, n, step) {
+        put_aside(room);
+    }
 }
 
-/// Moves the step from each node until its excess is below it, or until it is in a set that no step can leave. One pass over
-/// the nodes is enough: a node that gets a step lacked it before.
+/// Moves the step from each node until its excess is below it, or until it is put aside. One pass over the nodes is enough:
+/// a node that gets a step lacked it before, and no step enters what is put aside.
 fn drain_open<N: Name, A: Name, C: Cost, L: Ledger>(
     s: &mut State<N, A, C>,
     room: &mut Room,
@@ -150,9 +166,9 @@ fn drain_open<N: Name, A: Name, C: Cost, L: Ledger>(
     ensures drained { IsDrained step s.new }
     ensures room { IsRoomFor (length s.new.graph.nodes) room.new }
 {
-    let mut aside = false;
+    put_none_aside(room);
     for n in 0..s.graph().node_count() {
-        aside = drain_or_put_aside(s, room, steps, aside, NodeId(n), step);
+        drain_or_put_aside(s, room, steps, NodeId(n), step);
     }
 }
 

@@ -13,5 +13,6 @@ invariant-loop-a g l = record {
   lowered : IsLowered (labels_of l.initial.room) (labels_of l.room);
   relaxed : (m : Move) (v : ℕ) (price : ℤ) → IsEdge g.C.Cost.value_at l.step l.s m l.u.0 v price → Contains l.a-iterator (record { 0 = m.arc }) ⊎ IsRelaxed g.C.Cost.value_at l.step l.s (labels_of l.room) l.u.0 v price;
   source : l.room.source ≡ l.initial.room.source;
+  aside : l.room.aside ≡ l.initial.room.aside;
   room : IsRoomFor (length l.s.graph.nodes) l.room;
 }

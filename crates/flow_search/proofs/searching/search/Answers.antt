@@ -24,6 +24,7 @@ loop-u-init g c =
       room = subst (λ z. IsRoomFor z c.start.new.room) c.requires.room.set c.start.ensures.room;
       state = refl;
       source = c.start.ensures.source;
+      aside = c.start.ensures.aside;
       searched = rw (to_z-of_z w64 c.args.step c.ranges.step, c.start.ensures.labels) (started g.C.Cost.value_at c.args.step c.args.s.now c.args.room.now.set.len c.args.source.0 there c.requires.room.set);
     }
 
@@ -45,28 +46,28 @@ pub raise-requires-clause-high : goal.raise-requires-clause-high
 raise-requires-clause-high g c =
     let there : c.in-Some.u.0 < length c.args.s.now.graph.nodes = subst (λ z. c.in-Some.u.0 < z) c.loop-u.invariant.room.set c.in-Some.ensures.there in
     let searched : IsSearched g.C.Cost.value_at c.args.step c.args.s.now (labels_of c.loop-u.room) = rw (to_z-of_z w64 c.args.step c.ranges.step) at c.loop-u.invariant.searched in
-    let room : Room = (record { set = c.take_nearest.new.room.set; dist = c.take_nearest.new.room.dist; by = c.take_nearest.new.room.by; heap = c.take_nearest.new.room.heap; place = c.take_nearest.new.room.place; source = c.take_nearest.new.room.source; last = c.in-Some.u }) in
+    let room : Room = (record { set = c.take_nearest.new.room.set; dist = c.take_nearest.new.room.dist; by = c.take_nearest.new.room.by; heap = c.take_nearest.new.room.heap; place = c.take_nearest.new.room.place; aside = c.take_nearest.new.room.aside; source = c.take_nearest.new.room.source; last = c.in-Some.u }) in
     let f : SFits w128 c.index-top.result.now = search rules in
     let top : to_z w128 (of_z w128 c.index-top.result.now) ≡ distance (labels_of c.take_nearest.new.room) c.in-Some.u.0 =
     to_z-of_z w128 c.index-top.result.now f ∙ get_or_read c.take_nearest.new.room.dist.items c.in-Some.u.0 c.index-top.result.now (omega (arith, there, c.take_nearest.new.room.dist.ok.0, c.in-Some.ensures.room.dist, c.loop-u.invariant.room.set)) c.index-top.ensures (negsuc 0) in
-    rw top (end_distance g.C.Cost.value_at c.args.step c.args.s.now (labels_of c.loop-u.room) (record { set = c.take_nearest.new.room.set; dist = c.take_nearest.new.room.dist; by = c.take_nearest.new.room.by; heap = c.take_nearest.new.room.heap; place = c.take_nearest.new.room.place; source = c.take_nearest.new.room.source; last = c.in-Some.u }) c.graph.ensures.kept.network.arcs_fit c.requires.condition searched c.in-Some.ensures.taken there c.requires.potentials c.graph.ensures.kept.network.node_limit).1.high
+    rw top (end_distance g.C.Cost.value_at c.args.step c.args.s.now (labels_of c.loop-u.room) (record { set = c.take_nearest.new.room.set; dist = c.take_nearest.new.room.dist; by = c.take_nearest.new.room.by; heap = c.take_nearest.new.room.heap; place = c.take_nearest.new.room.place; aside = c.take_nearest.new.room.aside; source = c.take_nearest.new.room.source; last = c.in-Some.u }) c.graph.ensures.kept.network.arcs_fit c.requires.condition searched c.in-Some.ensures.taken there c.requires.potentials c.graph.ensures.kept.network.node_limit).1.high
 
 pub raise-requires-clause-room : goal.raise-requires-clause-room
 raise-requires-clause-room g c =
-    subst (λ z. IsRoomFor (length z.graph.nodes) (record { set = c.take_nearest.new.room.set; dist = c.take_nearest.new.room.dist; by = c.take_nearest.new.room.by; heap = c.take_nearest.new.room.heap; place = c.take_nearest.new.room.place; source = c.take_nearest.new.room.source; last = c.in-Some.u })) (sym c.loop-u.invariant.state) (record { set = c.in-Some.ensures.room.set ∙ c.loop-u.invariant.room.set; dist = c.in-Some.ensures.room.dist ∙ c.loop-u.invariant.room.set; by = c.in-Some.ensures.room.by ∙ c.loop-u.invariant.room.set; heap = c.in-Some.ensures.room.heap ∙ c.loop-u.invariant.room.set; place = c.in-Some.ensures.room.place ∙ c.loop-u.invariant.room.set })
+    subst (λ z. IsRoomFor (length z.graph.nodes) (record { set = c.take_nearest.new.room.set; dist = c.take_nearest.new.room.dist; by = c.take_nearest.new.room.by; heap = c.take_nearest.new.room.heap; place = c.take_nearest.new.room.place; aside = c.take_nearest.new.room.aside; source = c.take_nearest.new.room.source; last = c.in-Some.u })) (sym c.loop-u.invariant.state) (record { set = c.in-Some.ensures.room.set ∙ c.loop-u.invariant.room.set; dist = c.in-Some.ensures.room.dist ∙ c.loop-u.invariant.room.set; by = c.in-Some.ensures.room.by ∙ c.loop-u.invariant.room.set; heap = c.in-Some.ensures.room.heap ∙ c.loop-u.invariant.room.set; place = c.in-Some.ensures.room.place ∙ c.loop-u.invariant.room.set; aside = c.in-Some.ensures.room.aside ∙ c.loop-u.invariant.room.set })
 
 pub returns-then-lacks-clause-path : goal.returns-then-lacks-clause-path
 returns-then-lacks-clause-path g c =
     let there : c.in-Some.u.0 < length c.args.s.now.graph.nodes = subst (λ z. c.in-Some.u.0 < z) c.loop-u.invariant.room.set c.in-Some.ensures.there in
     let searched : IsSearched g.C.Cost.value_at c.args.step c.args.s.now (labels_of c.loop-u.room) = rw (to_z-of_z w64 c.args.step c.ranges.step) at c.loop-u.invariant.searched in
-    let room : Room = (record { set = c.take_nearest.new.room.set; dist = c.take_nearest.new.room.dist; by = c.take_nearest.new.room.by; heap = c.take_nearest.new.room.heap; place = c.take_nearest.new.room.place; source = c.take_nearest.new.room.source; last = c.in-Some.u }) in
+    let room : Room = (record { set = c.take_nearest.new.room.set; dist = c.take_nearest.new.room.dist; by = c.take_nearest.new.room.by; heap = c.take_nearest.new.room.heap; place = c.take_nearest.new.room.place; aside = c.take_nearest.new.room.aside; source = c.take_nearest.new.room.source; last = c.in-Some.u }) in
     let f : SFits w128 c.index-top.result.now = search rules in
     let top : to_z w128 (of_z w128 c.index-top.result.now) ≡ distance (labels_of c.take_nearest.new.room) c.in-Some.u.0 =
     to_z-of_z w128 c.index-top.result.now f ∙ get_or_read c.take_nearest.new.room.dist.items c.in-Some.u.0 c.index-top.result.now (omega (arith, there, c.take_nearest.new.room.dist.ok.0, c.in-Some.ensures.room.dist, c.loop-u.invariant.room.set)) c.index-top.ensures (negsuc 0) in
     let rest : c.raise.new.s ≡ with_potentials c.args.s.now c.raise.new.s.potentials = subst (λ z. c.raise.new.s ≡ with_potentials z c.raise.new.s.potentials) c.loop-u.invariant.state c.raise.ensures.rest in
     let raised = subst (λ z. (v : ℕ) → v < length z.graph.nodes → IsGain (distance (labels_of c.take_nearest.new.room) v) (to_z w128 (of_z w128 c.index-top.result.now)) (potential_at c.raise.new.s v -ℤ potential_at z v)) c.loop-u.invariant.state c.raise.ensures.raised in
     let gains = subst (λ t. (v : ℕ) → v < length c.args.s.now.graph.nodes → IsGain (distance (labels_of c.take_nearest.new.room) v) t (potential_at c.raise.new.s v -ℤ potential_at c.args.s.now v)) top raised in
-    let e = ended g.C.Cost.value_at c.args.step c.args.s.now (labels_of c.loop-u.room) (record { set = c.take_nearest.new.room.set; dist = c.take_nearest.new.room.dist; by = c.take_nearest.new.room.by; heap = c.take_nearest.new.room.heap; place = c.take_nearest.new.room.place; source = c.take_nearest.new.room.source; last = c.in-Some.u }) c.graph.ensures.kept.network.arcs_fit c.requires.condition searched c.in-Some.ensures.taken there c.raise.new.s rest gains in
+    let e = ended g.C.Cost.value_at c.args.step c.args.s.now (labels_of c.loop-u.room) (record { set = c.take_nearest.new.room.set; dist = c.take_nearest.new.room.dist; by = c.take_nearest.new.room.by; heap = c.take_nearest.new.room.heap; place = c.take_nearest.new.room.place; aside = c.take_nearest.new.room.aside; source = c.take_nearest.new.room.source; last = c.in-Some.u }) c.graph.ensures.kept.network.arcs_fit c.requires.condition searched c.in-Some.ensures.taken there c.raise.new.s rest gains in
     λ _. e.path
 
 pub returns-then-lacks-clause-ends : goal.returns-then-lacks-clause-ends
@@ -84,14 +85,14 @@ pub returns-then-lacks-clause-condition : goal.returns-then-lacks-clause-conditi
 returns-then-lacks-clause-condition g c =
     let there : c.in-Some.u.0 < length c.args.s.now.graph.nodes = subst (λ z. c.in-Some.u.0 < z) c.loop-u.invariant.room.set c.in-Some.ensures.there in
     let searched : IsSearched g.C.Cost.value_at c.args.step c.args.s.now (labels_of c.loop-u.room) = rw (to_z-of_z w64 c.args.step c.ranges.step) at c.loop-u.invariant.searched in
-    let room : Room = (record { set = c.take_nearest.new.room.set; dist = c.take_nearest.new.room.dist; by = c.take_nearest.new.room.by; heap = c.take_nearest.new.room.heap; place = c.take_nearest.new.room.place; source = c.take_nearest.new.room.source; last = c.in-Some.u }) in
+    let room : Room = (record { set = c.take_nearest.new.room.set; dist = c.take_nearest.new.room.dist; by = c.take_nearest.new.room.by; heap = c.take_nearest.new.room.heap; place = c.take_nearest.new.room.place; aside = c.take_nearest.new.room.aside; source = c.take_nearest.new.room.source; last = c.in-Some.u }) in
     let f : SFits w128 c.index-top.result.now = search rules in
     let top : to_z w128 (of_z w128 c.index-top.result.now) ≡ distance (labels_of c.take_nearest.new.room) c.in-Some.u.0 =
     to_z-of_z w128 c.index-top.result.now f ∙ get_or_read c.take_nearest.new.room.dist.items c.in-Some.u.0 c.index-top.result.now (omega (arith, there, c.take_nearest.new.room.dist.ok.0, c.in-Some.ensures.room.dist, c.loop-u.invariant.room.set)) c.index-top.ensures (negsuc 0) in
     let rest : c.raise.new.s ≡ with_potentials c.args.s.now c.raise.new.s.potentials = subst (λ z. c.raise.new.s ≡ with_potentials z c.raise.new.s.potentials) c.loop-u.invariant.state c.raise.ensures.rest in
     let raised = subst (λ z. (v : ℕ) → v < length z.graph.nodes → IsGain (distance (labels_of c.take_nearest.new.room) v) (to_z w128 (of_z w128 c.index-top.result.now)) (potential_at c.raise.new.s v -ℤ potential_at z v)) c.loop-u.invariant.state c.raise.ensures.raised in
     let gains = subst (λ t. (v : ℕ) → v < length c.args.s.now.graph.nodes → IsGain (distance (labels_of c.take_nearest.new.room) v) t (potential_at c.raise.new.s v -ℤ potential_at c.args.s.now v)) top raised in
-    let e = ended g.C.Cost.value_at c.args.step c.args.s.now (labels_of c.loop-u.room) (record { set = c.take_nearest.new.room.set; dist = c.take_nearest.new.room.dist; by = c.take_nearest.new.room.by; heap = c.take_nearest.new.room.heap; place = c.take_nearest.new.room.place; source = c.take_nearest.new.room.source; last = c.in-Some.u }) c.graph.ensures.kept.network.arcs_fit c.requires.condition searched c.in-Some.ensures.taken there c.raise.new.s rest gains in
+    let e = ended g.C.Cost.value_at c.args.step c.args.s.now (labels_of c.loop-u.room) (record { set = c.take_nearest.new.room.set; dist = c.take_nearest.new.room.dist; by = c.take_nearest.new.room.by; heap = c.take_nearest.new.room.heap; place = c.take_nearest.new.room.place; aside = c.take_nearest.new.room.aside; source = c.take_nearest.new.room.source; last = c.in-Some.u }) c.graph.ensures.kept.network.arcs_fit c.requires.condition searched c.in-Some.ensures.taken there c.raise.new.s rest gains in
     e.condition
 
 pub returns-then-lacks-clause-rest : goal.returns-then-lacks-clause-rest
@@ -103,13 +104,13 @@ returns-then-lacks-clause-closed g c =
     let searched : IsSearched g.C.Cost.value_at c.args.step c.args.s.now (labels_of c.loop-u.room) = rw (to_z-of_z w64 c.args.step c.ranges.step) at c.loop-u.invariant.searched in
     let sink : IsSink c.args.s.now c.args.step c.in-Some.u.0 = subst (λ z. IsSink z c.args.step c.in-Some.u.0) c.loop-u.invariant.state (rw (to_z-of_z w64 c.args.step c.ranges.step) at (c.lacks.ensures.0 c.if-lacks.true)) in
     let way : Reaches c.args.s.now c.args.step c.args.source.0 c.in-Some.u.0 =
-    subst (λ z. Reaches c.args.s.now c.args.step z.0 c.in-Some.u.0) (c.in-Some.ensures.source ∙ c.loop-u.invariant.source) (end_reached g.C.Cost.value_at c.args.step c.args.s.now (labels_of c.loop-u.room) (record { set = c.take_nearest.new.room.set; dist = c.take_nearest.new.room.dist; by = c.take_nearest.new.room.by; heap = c.take_nearest.new.room.heap; place = c.take_nearest.new.room.place; source = c.take_nearest.new.room.source; last = c.in-Some.u }) c.graph.ensures.kept.network.arcs_fit c.requires.condition searched c.in-Some.ensures.taken there) in
+    subst (λ z. Reaches c.args.s.now c.args.step z.0 c.in-Some.u.0) (c.in-Some.ensures.source ∙ c.loop-u.invariant.source) (end_reached g.C.Cost.value_at c.args.step c.args.s.now (labels_of c.loop-u.room) (record { set = c.take_nearest.new.room.set; dist = c.take_nearest.new.room.dist; by = c.take_nearest.new.room.by; heap = c.take_nearest.new.room.heap; place = c.take_nearest.new.room.place; aside = c.take_nearest.new.room.aside; source = c.take_nearest.new.room.source; last = c.in-Some.u }) c.graph.ensures.kept.network.arcs_fit c.requires.condition searched c.in-Some.ensures.taken there) in
     (λ e. absurd (cc), λ h. absurd (h c.in-Some.u.0 there sink way))
 
 pub returns-then-lacks-clause-room : goal.returns-then-lacks-clause-room
 returns-then-lacks-clause-room g c =
     let rest : c.raise.new.s ≡ with_potentials c.args.s.now c.raise.new.s.potentials = subst (λ z. c.raise.new.s ≡ with_potentials z c.raise.new.s.potentials) c.loop-u.invariant.state c.raise.ensures.rest in
-    subst (λ z. IsRoomFor (length z.graph.nodes) (record { set = c.take_nearest.new.room.set; dist = c.take_nearest.new.room.dist; by = c.take_nearest.new.room.by; heap = c.take_nearest.new.room.heap; place = c.take_nearest.new.room.place; source = c.take_nearest.new.room.source; last = c.in-Some.u })) (sym rest) (record { set = c.in-Some.ensures.room.set ∙ c.loop-u.invariant.room.set; dist = c.in-Some.ensures.room.dist ∙ c.loop-u.invariant.room.set; by = c.in-Some.ensures.room.by ∙ c.loop-u.invariant.room.set; heap = c.in-Some.ensures.room.heap ∙ c.loop-u.invariant.room.set; place = c.in-Some.ensures.room.place ∙ c.loop-u.invariant.room.set })
+    subst (λ z. IsRoomFor (length z.graph.nodes) (record { set = c.take_nearest.new.room.set; dist = c.take_nearest.new.room.dist; by = c.take_nearest.new.room.by; heap = c.take_nearest.new.room.heap; place = c.take_nearest.new.room.place; aside = c.take_nearest.new.room.aside; source = c.take_nearest.new.room.source; last = c.in-Some.u })) (sym rest) (record { set = c.in-Some.ensures.room.set ∙ c.loop-u.invariant.room.set; dist = c.in-Some.ensures.room.dist ∙ c.loop-u.invariant.room.set; by = c.in-Some.ensures.room.by ∙ c.loop-u.invariant.room.set; heap = c.in-Some.ensures.room.heap ∙ c.loop-u.invariant.room.set; place = c.in-Some.ensures.room.place ∙ c.loop-u.invariant.room.set; aside = c.in-Some.ensures.room.aside ∙ c.loop-u.invariant.room.set })
 
 pub relax-requires-clause-there : goal.relax-requires-clause-there
 relax-requires-clause-there g c =
@@ -142,6 +143,7 @@ loop-u-preserved g c =
       room = subst (λ z. IsRoomFor (length z.graph.nodes) c.relax.new.room) c.loop-u.invariant.state c.relax.ensures.room;
       state = c.loop-u.invariant.state;
       source = c.relax.ensures.source ∙ c.in-Some.ensures.source ∙ c.loop-u.invariant.source;
+      aside = c.relax.ensures.aside ∙ c.in-Some.ensures.aside ∙ c.loop-u.invariant.aside;
       searched = searched_on g.C.Cost.value_at (to_z w64 (of_z w64 c.args.step)) c.args.s.now (labels_of c.loop-u.room) (labels_of c.take_nearest.new.room) (labels_of c.relax.new.room) c.in-Some.u.0 c.loop-u.invariant.searched c.in-Some.ensures.taken dry relaxing c.relax.ensures.lowered relaxed;
     }
 

@@ -8,6 +8,7 @@ invariant-loop-u g l = record {
   room : IsRoomFor (length l.initial.s.graph.nodes) l.room;
   state : l.s ≡ l.initial.s;
   source : l.room.source ≡ l.fn.source;
+  aside : l.room.aside ≡ l.fn.room.aside;
   searched : IsSearched g.C.Cost.value_at l.step l.initial.s (labels_of l.room);
 }
 

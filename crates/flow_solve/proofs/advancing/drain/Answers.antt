@@ -1,4 +1,4 @@
-use Rattle.std.proofs.Common.{rules, ◌≡◌, false, ◌+◌, ◌<◌, ◌≤ℤ◌, length, subst, sym, arith, IsTrue}
+use Rattle.std.proofs.Common.{rules, ◌≡◌, false, ◌+◌, ◌<◌, ◌≤ℤ◌, length, subst, sym, ◌∙◌, arith, IsTrue}
 use Rattle.std.proofs.lemmas.Int.{ints, to_z-of_z}
 use mir.Syntax.{w64}
 use mir.Val.{to_z, of_z}
@@ -39,5 +39,6 @@ loop-source-preserved g c =
       underway = subst (λ t. IsUnderway g.C.Cost.value_at (to_z w64 (of_z w64 c.args.step)) c.args.s.now c.advance.new.s c.args.steps.now t) (sym (c.advance.ensures.ticks done))
           (underway_on g.C.Cost.value_at (to_z w64 (of_z w64 c.args.step)) c.args.s.now c.loop-source.s c.advance.new.s c.args.steps.now c.loop-source.steps (c.loop-source.steps + 1) u
           (underway_step g.C.Cost.value_at (to_z w64 (of_z w64 c.args.step)) c.loop-source.s c.args.source.0 c.loop-source.steps low there enough c.advance.new.s (c.advance.ensures.moved done)));
+      aside = c.advance.ensures.aside ∙ c.loop-source.invariant.aside;
       room = c.advance.ensures.room;
     }

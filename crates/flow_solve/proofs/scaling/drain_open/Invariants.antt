@@ -8,5 +8,5 @@ abbrev pub invariant-loop-n : goal.invariant-loop-n
 invariant-loop-n g l = record {
   underway : IsUnderway g.C.Cost.value_at l.step l.initial.s l.s l.initial.steps l.steps;
   room : IsRoomFor (length l.s.graph.nodes) l.room;
-  passed : IsPassed l.step l.s l.room.set.items l.aside l.n;
+  passed : IsPassed l.step l.s l.room.aside.items l.n;
 }

@@ -51,4 +51,5 @@ returns-clause-room g c =
       by = room.by;
       heap = omega (arith, p, room.heap, c.args.room.now.heap.ok, c.number_nodes.ensures.counted, c.sort_nodes.new.nodes.ok);
       place = room.place;
+      aside = room.aside;
     }
