@@ -10,14 +10,14 @@ ghost use Rattle.sut_circuit.specs.RowCosts.{cost_at};
 ghost use Rattle.sut_balance.specs.FoundOn.{IsFoundOn};
 
 use crate::by_account::{accounts_in, potentials_of};
-use crate::starting::first_table;
+use crate::starting::started;
 use flow_residual::{Room, Steps};
 use flow_solve::{Outcome, solve};
 use no_memory::NoMemory;
 use std::alloc::Global;
 use std::sync::ledger::Ledger;
 use sut_cert::{AccountSet, Answer, Potentials};
-use sut_circuit::{Circuit, build, table_of};
+use sut_circuit::{Circuit, table_of};
 use sut_tables::Problem;
 
 /// The answer to the problem of a circuit, which goes on from the circuit's flows and potentials. After every result the
@@ -74,9 +74,7 @@ pub fn balance<L: Ledger>(
     ensures right { IfOk result (IsRight p.now) }
     ensures infeasible { IfOk result (λ a. IsTrue (is_infeasible a) ↔ IsImpossible p.now) }
 {
-    let table = first_table(alloc, p)?;
-    let mut circuit = build(alloc, p)?;
-    circuit.start_at(&table);
+    let mut circuit = started(alloc, p)?;
     let mut room = Room::for_state(alloc, &circuit.state)?;
     balance_in(alloc, p, &mut circuit, &mut room, steps)
 }

@@ -9,4 +9,5 @@ mod starting;
 mod tests;
 
 pub use balancing::{balance, balance_in};
+pub use starting::started;
 pub use sut_cert::Answer;

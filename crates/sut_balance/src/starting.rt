@@ -1,9 +1,13 @@
-//! The table that a solver starts from. It need not be admissible: the nearer it is to a least table, the less is left to do.
+//! What a solver starts from. It need not be admissible: the nearer it is to a least table, the less is left to do.
 
+ghost use Rattle.std.specs.Prelude.{IfOk};
 ghost use Rattle.sut_tables.specs.Rows.{InRange};
+ghost use Rattle.sut_circuit.specs.IsCircuit.{IsCircuit};
 
+use flow_start::start;
 use no_memory::NoMemory;
 use std::alloc::Global;
+use sut_circuit::{Circuit, build};
 use sut_classes::IndustryId;
 use sut_measures::{Cell, Measure, Total};
 use sut_tables::{Problem, Row, Table, value};
@@ -44,7 +48,7 @@ fn first_number(t: &Table, row: &Row, cell: Cell) -> i64
 }
 
 /// Each cell with its first number. The added items come last in measure order, when the other cells are there.
-pub(crate) fn first_table(alloc: Global, p: &Problem) -> Result<Table, NoMemory> {
+fn first_table(alloc: Global, p: &Problem) -> Result<Table, NoMemory> {
     let mut table = Table::zeros(alloc, p)?;
     for row in p.rows() {
         if let Measure::Cell(cell) = row.measure() {
@@ -53,4 +57,16 @@ pub(crate) fn first_table(alloc: Global, p: &Problem) -> Result<Table, NoMemory>
         }
     }
     Ok(table)
+}
+
+/// The circuit of a problem, with flows and potentials from which the solver has little left to do. The flows start at the
+/// table of first numbers. Which ones they are promises nothing: the solver shows what it answers.
+pub fn started(alloc: Global, p: &Problem) -> Result<Circuit, NoMemory>
+    ensures circuit { IfOk result (IsCircuit p.now) }
+{
+    let table = first_table(alloc, p)?;
+    let mut circuit = build(alloc, p)?;
+    circuit.start_at(&table);
+    start(alloc, &mut circuit.state)?;
+    Ok(circuit)
 }
