@@ -1,4 +1,5 @@
 pub mod Endings
 pub mod Labelled
+pub mod Ready
 pub mod Touching
 pub mod Ways

@@ -1,7 +1,9 @@
 -- What the four functions of a frontier do to the labels.
-use Rattle.std.specs.Prelude.{◌≡◌, ℕ, ◌<◌, Bool, true, false, List, ℤ, pos, negsuc, ◌≤ℤ◌, ◌<ℤ◌, ◌⊎◌, Option, Some, None, replicate, slice_set, slice_index_or}
+use Rattle.std.specs.Prelude.{◌≡◌, ℕ, ◌<◌, ◌≤◌, Bool, true, false, List, ℤ, pos, negsuc, ◌≤ℤ◌, ◌<ℤ◌, ◌⊎◌, Option, Some, None, length, replicate, slice_set, slice_index_or}
 use Rattle.flow_graph.specs.declared.arcs.ArcId.{ArcId}
+use Rattle.flow_graph.specs.declared.arcs.NodeId.{NodeId}
 use Rattle.flow_graph.specs.Contradiction.{in_set}
+use Rattle.flow_residual.specs.Gaps.{node_at}
 use Rattle.flow_search.specs.Labels.{Labels, distance, IsReached, IsDone}
 
 -- nothing is settled, and the source alone is reached
@@ -42,6 +44,11 @@ pub record Accepts (old new : Labels) (v : ℕ) (d : ℤ) (a : ArcId) : Type 0 w
   pub further : IsReached old v → d <ℤ distance old v
   pub new_is : new ≡ with_offer old v d a
 
+-- a distance of a node that was reached, and is no further than this
+pub record IsReachedWithin (at d : ℤ) : Type 0 where
+  pub reached : pos 0 ≤ℤ d
+  pub near : d ≤ℤ at
+
 -- reached, and not settled
 pub record IsWaiting (set : List Bool) (dist : List ℤ) (v : ℕ) : Type 0 where
   pub apart : in_set set v ≡ false
@@ -52,6 +59,23 @@ abbrev pub IsBest : List Bool → List ℤ → ℕ → Option ℕ → Type 0
 IsBest set dist n None = (v : ℕ) → v < n → IsWaiting set dist v → ⊥
 IsBest set dist n (Some u) =
     (u < n) × IsWaiting set dist u × ((v : ℕ) → v < n → IsWaiting set dist v → slice_index_or dist u (negsuc 0) ≤ℤ slice_index_or dist v (negsuc 0))
+
+-- the node is one of the first of these, so many of them
+abbrev pub IsAmong : List NodeId → ℕ → ℕ → Type 0
+IsAmong nodes count v = (j : ℕ) × (j < count) × (node_at nodes j ≡ v)
+
+-- the first of these nodes, so many of them, were reached and are no further than this
+pub record AreReady (l : Labels) (nodes : List NodeId) (count : ℕ) (at : ℤ) : Type 0 where
+  pub counted : count ≤ length nodes
+  pub within : (i : ℕ) → i < count → node_at nodes i < length l.set
+  pub reached : (i : ℕ) → i < count → IsReached l (node_at nodes i)
+  pub near : (i : ℕ) → i < count → distance l (node_at nodes i) ≤ℤ at
+
+-- no node that waits is nearer than these
+pub record HasReady (l : Labels) (nodes : List NodeId) (count : ℕ) : Type 0 where
+  pub at : ℤ
+  pub ready : AreReady l nodes count at
+  pub far : (v : ℕ) → IsReached l v → in_set l.set v ≡ false → at ≤ℤ distance l v
 
 -- how far the potential of a node is raised where a path is found at a distance
 abbrev pub IsGain : ℤ → ℤ → ℤ → Type 0

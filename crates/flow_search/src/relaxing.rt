@@ -1,13 +1,15 @@
-ghost use Rattle.std.specs.Prelude.{◌≡◌, ℕ, ◌*◌, ◌^◌, ◌<◌, ◌⊎◌, ℤ, pos, ◌+ℤ◌, ◌-ℤ◌, ◌≤ℤ◌, length};
+ghost use Rattle.std.specs.Prelude.{◌≡◌, ◌↔◌, ℕ, ◌-◌, ◌*◌, ◌^◌, ◌<◌, ◌≤◌, if◌then◌else◌, ℤ, pos, ◌+ℤ◌, length, slice_get, IsTrue, IsSomeAnd};
 ghost use Rattle.flow_cost.specs.Cost.{IsWithin};
 ghost use Rattle.flow_graph.specs.Condition.{ArePotentials};
 ghost use Rattle.flow_residual.specs.Flows.{IsFlowOf, IsStep, MeetsAll};
-ghost use Rattle.flow_residual.specs.Path.{Move};
+ghost use Rattle.flow_residual.specs.Path.{Move, IsSink};
+ghost use Rattle.flow_residual.specs.Gaps.{node_at};
 ghost use Rattle.flow_residual.specs.Rooms.{IsRoomFor};
 ghost use Rattle.flow_residual.specs.Edges.{slope_limit, length_of};
-ghost use Rattle.flow_search.specs.Labels.{labels_of, IsRelaxing, IsLowered, RelaxesMove, RelaxesAll};
+ghost use Rattle.flow_search.specs.Frontier.{AreReady};
+ghost use Rattle.flow_search.specs.Labels.{labels_of, distance, IsRelaxing, IsLowered, RelaxesMove, RelaxesAll};
 
-use crate::frontier::offer;
+use crate::frontier::{is_within, offer};
 use crate::pricing::edge;
 use flow_cost::Cost;
 use flow_graph::{ArcId, Name, NodeId};
@@ -33,10 +35,45 @@ fn further<N: Name, A: Name, C: Cost>(
     at + (price - (there - here))
 }
 
-/// Offers the node that a move of the arc enters.
+/// Whether a node lacks at least the step.
+pub(crate) fn lacks<N: Name, A: Name, C: Cost>(s: &State<N, A, C>, n: NodeId, step: i64) -> bool
+    requires there { n.0 < length s.now.graph.nodes }
+    requires step { IsStep step }
+    ensures { IsTrue result ↔ IsSink s.now step n.0 }
+{
+    s.excess(n) <= -(step as i128)
+}
+
+/// Whether the last of the ready nodes lacks the step: then it is to stay the last, and be taken next.
+fn is_sink_next<N: Name, A: Name, C: Cost>(
+    s: &State<N, A, C>,
+    nodes: &[NodeId],
+    ready: usize,
+    step: i64,
+) -> bool
+    requires step { IsStep step }
+    requires counted { ready ≤ length nodes.now }
+    requires there { (i : ℕ) → i < ready → node_at nodes.now i < length s.now.graph.nodes }
+    ensures { IsTrue result → 0 < ready }
+{
+    ready > 0 && lacks(s, nodes[ready - 1], step)
+}
+
+/// The node that a move of the arc enters.
+fn entered<N: Name, A: Name, C: Cost>(s: &State<N, A, C>, a: ArcId, up: bool) -> NodeId
+    requires { a.0 < length s.now.graph.arcs }
+    ensures node { IsSomeAnd (slice_get s.now.graph.arcs a.0) (λ arc. result.0 ≡ (if up then arc.head else arc.tail)) }
+    ensures there { result.0 < length s.now.graph.nodes }
+{
+    let (tail, head) = s.graph().ends(a);
+    if up { head } else { tail }
+}
+
+/// Offers the node that a move of the arc enters, where that can bring it nearer.
 fn relax_move<N: Name, A: Name, C: Cost>(
     s: &State<N, A, C>,
     room: &mut Room,
+    ready: &mut usize,
     u: NodeId,
     a: ArcId,
     up: bool,
@@ -48,18 +85,25 @@ fn relax_move<N: Name, A: Name, C: Cost>(
     requires potentials { ArePotentials (pos (2 * 10 ^ 22)) (length s.now.graph.nodes) s.now.potentials }
     requires condition { MeetsAll C.value_at step s.now }
     requires relaxing { IsRelaxing C.value_at step s.now (labels_of room.old) u.0 }
+    requires ready { AreReady (labels_of room.old) room.old.heap.items ready.old (distance (labels_of room.old) u.0) }
     requires room { IsRoomFor (length s.now.graph.nodes) room.old }
     ensures relaxing { IsRelaxing C.value_at step s.now (labels_of room.new) u.0 }
     ensures lowered { IsLowered (labels_of room.old) (labels_of room.new) }
     ensures relaxed { RelaxesMove C.value_at step s.now (labels_of room.new) u.0 (record { arc = a.0; up = up }) }
+    ensures ready { AreReady (labels_of room.new) room.new.heap.items ready.new (distance (labels_of room.new) u.0) }
     ensures source { room.new.source ≡ room.old.source }
     ensures aside { room.new.aside ≡ room.old.aside }
     ensures room { IsRoomFor (length s.now.graph.nodes) room.new }
 {
+    let at = room.dist[u.0 as usize];
+    let to = entered(s, a, up);
+    if is_within(room.dist[to.0 as usize], at) {
+        return;
+    }
     if let Some((v, price)) = edge(s, u, a, up, step) {
-        let at = room.dist[u.0 as usize];
         let d = further(s, u, v, at, price);
-        offer(room, v, d, a);
+        let before_last = is_sink_next(s, &room.heap, *ready, step);
+        offer(room, ready, v, d, a, at, before_last);
     }
 }
 
@@ -67,6 +111,7 @@ fn relax_move<N: Name, A: Name, C: Cost>(
 pub(crate) fn relax<N: Name, A: Name, C: Cost>(
     s: &State<N, A, C>,
     room: &mut Room,
+    ready: &mut usize,
     u: NodeId,
     step: i64,
 )
@@ -75,16 +120,18 @@ pub(crate) fn relax<N: Name, A: Name, C: Cost>(
     requires potentials { ArePotentials (pos (2 * 10 ^ 22)) (length s.now.graph.nodes) s.now.potentials }
     requires condition { MeetsAll C.value_at step s.now }
     requires relaxing { IsRelaxing C.value_at step s.now (labels_of room.old) u.0 }
+    requires ready { AreReady (labels_of room.old) room.old.heap.items ready.old (distance (labels_of room.old) u.0) }
     requires room { IsRoomFor (length s.now.graph.nodes) room.old }
     ensures relaxing { IsRelaxing C.value_at step s.now (labels_of room.new) u.0 }
     ensures lowered { IsLowered (labels_of room.old) (labels_of room.new) }
     ensures relaxed { RelaxesAll C.value_at step s.now (labels_of room.new) u.0 }
+    ensures ready { AreReady (labels_of room.new) room.new.heap.items ready.new (distance (labels_of room.new) u.0) }
     ensures source { room.new.source ≡ room.old.source }
     ensures aside { room.new.aside ≡ room.old.aside }
     ensures room { IsRoomFor (length s.now.graph.nodes) room.new }
 {
     for a in s.graph().arcs_at(u) {
-        relax_move(s, room, u, a, true, step);
-        relax_move(s, room, u, a, false, step);
+        relax_move(s, room, ready, u, a, true, step);
+        relax_move(s, room, ready, u, a, false, step);
     }
 }

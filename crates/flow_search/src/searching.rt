@@ -6,7 +6,7 @@ ghost use Rattle.flow_residual.specs.Rooms.{IsRoomFor, HoldsPath};
 
 use crate::frontier::{start, take_nearest};
 use crate::raising::raise;
-use crate::relaxing::relax;
+use crate::relaxing::{lacks, relax};
 use flow_cost::Cost;
 use flow_graph::{Name, NodeId};
 use flow_residual::{Room, State};
@@ -50,23 +50,15 @@ pub fn search<N: Name, A: Name, C: Cost>(
     // The graph's limits bound what follows.
     s.graph();
     start(room, source);
-    while let Some(u) = take_nearest(room) {
+    let mut ready = 0;
+    while let Some(u) = take_nearest(room, &mut ready) {
         if lacks(s, u, step) {
             room.last = u;
             let top = room.dist[u.0 as usize];
             raise(s, room, top);
             return Found::Path;
         }
-        relax(s, room, u, step);
+        relax(s, room, &mut ready, u, step);
     }
     Found::Closed
-}
-
-/// Whether a node lacks at least the step.
-fn lacks<N: Name, A: Name, C: Cost>(s: &State<N, A, C>, n: NodeId, step: i64) -> bool
-    requires there { n.0 < length s.now.graph.nodes }
-    requires step { IsStep step }
-    ensures { IsTrue result ↔ IsSink s.now step n.0 }
-{
-    s.excess(n) <= -(step as i128)
 }

@@ -3,7 +3,7 @@ use lib.Signed.{le_z}
 use mir.Syntax.{w64, w128}
 use mir.Val.{to_z, of_z, SFits}
 use Rattle.flow_residual.proofs.Casts.{lacks_is}
-use Rattle.flow_search.proofs.searching.lacks.Goals as goal
+use Rattle.flow_search.proofs.relaxing.lacks.Goals as goal
 
 pub returns : goal.returns
 returns g c =

@@ -1,0 +1,26 @@
+-- What needs no offer, and what nothing was offered yet.
+use Rattle.std.proofs.Common.{◌≡◌, ℕ, Bool, if◌then◌else◌, List, slice_get, sym, subst, ◌∙◌, arith, ℤ, pos}
+use Rattle.std.specs.Prelude.{IsSomeAnd}
+use Rattle.std.proofs.lemmas.Int.{ints}
+use Rattle.flow_graph.specs.declared.arcs.NodeId.{NodeId}
+use Rattle.flow_residual.specs.Flows.{Flow, MeetsAll}
+use Rattle.flow_search.specs.Labels.{Labels, distance, RelaxesMove}
+use Rattle.flow_search.specs.Frontier.{IsReachedWithin, HasReady}
+use Rattle.flow_search.proofs.Ways.{edge_long}
+
+-- at the start no node is ready
+pub none_ready : (l : Labels) (nodes : List NodeId) → HasReady l nodes 0
+none_ready l nodes = record {
+  at = pos 0;
+  ready = record { counted = omega arith; within = λ i h. absurd (omega (arith, h)); reached = λ i h. absurd (omega (arith, h)); near = λ i h. absurd (omega (arith, h)) };
+  far = λ v r w. r.nonneg;
+}
+
+-- no edge brings a node nearer that is no further than the node that the edge leaves
+pub near_relaxed : {N A C : Type 0} (value : C → ℤ → ℤ) (step : ℤ) (s : Flow N A C) (l : Labels) (u a v : ℕ) (up : Bool) → MeetsAll value step s →
+    IsSomeAnd (slice_get s.graph.arcs a) (λ arc. v ≡ (if up then arc.head else arc.tail)) → IsReachedWithin (distance l u) (distance l v) → RelaxesMove value step s l u (record { arc = a; up = up })
+near_relaxed value step s l u a v up meets h near w price e =
+    let long = edge_long value step s (record { arc = a; up = up }) u w price meets e in
+    let k : v ≡ (if up then e.arc.head else e.arc.tail) = subst (λ o. IsSomeAnd o (λ arc. v ≡ (if up then arc.head else arc.tail))) e.has.arc_is h in
+    let j : IsReachedWithin (distance l u) (distance l w) = subst (λ n. IsReachedWithin (distance l u) (distance l n)) (k ∙ sym e.to_is) near in
+    record { reached = record { nonneg = j.reached }; short = omega (arith, ints, j.near, long) }
