@@ -6,4 +6,5 @@ mod nearing;
 mod scaling;
 mod solving;
 
+pub use scaling::has_much_left;
 pub use solving::{Outcome, solve};

@@ -42,6 +42,13 @@ fn total_excess<N: Name, A: Name, C: Cost>(s: &State<N, A, C>) -> i128
     sum
 }
 
+/// Whether more is left to move than goes by unit steps alone: the positive excesses sum to more than 4,096.
+pub fn has_much_left<N: Name, A: Name, C: Cost>(s: &State<N, A, C>) -> bool
+    ensures { IsTrue result ↔ (pos 4_096 <ℤ surplus s.now s.now.flows) }
+{
+    total_excess(s) > FEW
+}
+
 /// How many nodes and arcs there are.
 fn size<N: Name, A: Name, C: Cost>(s: &State<N, A, C>) -> u32
     ensures value { result ≡ size_of s.now }

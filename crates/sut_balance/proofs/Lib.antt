@@ -1,2 +1,3 @@
 pub mod ByAccount
 pub mod Found
+pub mod Restarted

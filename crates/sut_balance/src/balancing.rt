@@ -10,9 +10,10 @@ ghost use Rattle.sut_circuit.specs.RowCosts.{cost_at};
 ghost use Rattle.sut_balance.specs.FoundOn.{IsFoundOn};
 
 use crate::by_account::{accounts_in, potentials_of};
+use crate::solving::solve_from;
 use crate::starting::started;
 use flow_residual::{Room, Steps};
-use flow_solve::{Outcome, solve};
+use flow_solve::Outcome;
 use no_memory::NoMemory;
 use std::alloc::Global;
 use std::sync::ledger::Ledger;
@@ -20,8 +21,8 @@ use sut_cert::{AccountSet, Answer, Potentials};
 use sut_circuit::{Circuit, table_of};
 use sut_tables::Problem;
 
-/// The answer to the problem of a circuit, which goes on from the circuit's flows and potentials. After every result the
-/// circuit is that of the problem.
+/// The answer to the problem of a circuit, which goes on from the circuit's flows and potentials where settling the flows
+/// leaves an excess of at most 4,096, and else starts anew. After every result the circuit is that of the problem.
 pub fn balance_in<L: Ledger>(
     alloc: Global,
     p: &Problem,
@@ -46,7 +47,7 @@ pub fn balance_in<L: Ledger>(
     ensures counts_up { steps.old ≤ steps.new }
 {
     p.kept();
-    let outcome = solve(&mut c.state, room, steps);
+    let outcome = solve_from(alloc, &mut c.state, room, steps)?;
     // What every state keeps bounds its potentials.
     c.state.graph();
     match outcome {

@@ -4,6 +4,7 @@
 
 pub mod balancing;
 mod by_account;
+mod solving;
 mod starting;
 #[cfg(test)]
 mod tests;
