@@ -1,13 +1,13 @@
 -- Flows that settled settle where they are, so what is promised from there is promised from before they settled.
-use Rattle.std.proofs.Common.{◌≡◌, ℕ, ◌-◌, ◌≤◌, List, refl, sym, subst, arith, ap, ℤ, pos, ◌+ℤ◌, ◌-ℤ◌, ◌≤ℤ◌}
+use Rattle.std.proofs.Common.{◌≡◌, ℕ, ◌≤◌, List, refl, sym, subst, arith, ℤ, pos, ◌-ℤ◌, ◌≤ℤ◌}
 use Rattle.std.specs.Prelude.{unsigned_abs}
 use Rattle.std.proofs.lemmas.Int.{ints}
-use Rattle.flow_cost.specs.Settle.{IsSettled, IsPlace, IsNearestSettled}
+use Rattle.flow_cost.specs.Settle.{IsNearestSettled}
 use Rattle.flow_graph.specs.Condition.{rise}
 use Rattle.flow_graph.proofs.Lookups.{read_once}
 use Rattle.flow_residual.specs.Flows.{Flow, SettlesTo}
 use Rattle.flow_residual.proofs.Kept.{same_length_read}
-use Rattle.flow_solve.specs.Bounds.{FewTicks, NearSettled, StaysWithin, surplus}
+use Rattle.flow_solve.specs.Bounds.{FewTicks, NearSettled, surplus}
 
 no_way : (y : ℤ) (n : ℕ) → unsigned_abs (y -ℤ y) ≤ n
 no_way y n = let e : y -ℤ y ≡ pos 0 = omega (arith, ints) in rw e (omega arith)

@@ -1,6 +1,5 @@
-use Rattle.std.proofs.Common.{◌≡◌, ◌∙◌, ap, arith, List, ℤ, pos, ◌<ℤ◌}
+use Rattle.std.proofs.Common.{◌∙◌, ap, arith, List, ℤ, pos, ◌<ℤ◌}
 use Rattle.std.proofs.lemmas.Int.{ints}
-use Rattle.flow_residual.specs.Flows.{Flow}
 use Rattle.flow_solve.specs.Bounds.{surplus}
 use Rattle.flow_solve.proofs.Underway.{surplus_is}
 use Rattle.flow_solve.proofs.Unique.{settles_alone}
