@@ -1,12 +1,13 @@
 -- Seats after several tables, and the first one with a label.
-use Rattle.std.proofs.Common.{◌≡◌, ◌∙◌, ◌&&◌, ℕ, zero, suc, ◌+◌, ◌<◌, List, [], ◌∷◌, Bool, true, false, refl, sym, ap, arith, get_or, length, map}
+use Rattle.std.proofs.Common.{◌≡◌, ◌∙◌, ◌&&◌, ℕ, zero, suc, ◌+◌, ◌<◌, ◌^◌, List, [], ◌∷◌, Bool, true, false, refl, sym, ap, arith, get_or, length, map}
 use Rattle.std.specs.Prelude.{None, Some, if◌then◌else◌, is_some, position}
 use Rattle.std.proofs.lemmas.List.Quantifiers.{position-Some}
 use Rattle.std.proofs.lemmas.List.Sums.{sum_by-cons}
 use Rattle.sut_tables.specs.ProblemFacts.{ProblemFacts}
 use Rattle.sut_tables.specs.TableFacts.{TableFacts}
 use Rattle.sut_review.specs.Rules.{Rule, asked, marks_of, tally_of}
-use Rattle.sut_review.specs.Seats.{SeatFacts, all_shown, dismissed, dismissed_at, ended, new_seat, seat_after, seat_shown, show_all, stands_at, stands_with}
+use Rattle.sut_review.specs.Seats.{AreFew, SeatFacts, all_shown, dismissed, dismissed_at, ended, new_seat, seat_after, seat_shown, show_all, stands_at, stands_with}
+use Rattle.sut_review.proofs.Tallies.{few-marked, raised-below}
 
 same-map : (seats : List SeatFacts) → seats ≡ map (seat_after []) seats
 same-map [] = refl
@@ -22,23 +23,27 @@ show-each [] seats = same-map seats
 show-each (table ∷ tables) seats =
     show-each tables (all_shown table.0 table.1 seats) ∙ then-map (seat_after tables) (seat_shown table.0 table.1) seats
 
-counted : (tables : List (ProblemFacts × TableFacts)) (label : List ℕ) (seen tally : ℕ) (rule : Rule) → seat_after tables (record { label = label; seen = seen; tally = tally; standing = Some rule }) ≡ record { label = label; seen = seen + length tables; tally = tally + tally_of rule tables; standing = Some rule }
-counted [] label seen tally rule =
+counted : (tables : List (ProblemFacts × TableFacts)) (label : List ℕ) (seen tally : ℕ) (rule : Rule) → tally + tally_of rule tables < 2 ^ 63 → seat_after tables (record { label = label; seen = seen; tally = tally; standing = Some rule }) ≡ record { label = label; seen = seen + length tables; tally = tally + tally_of rule tables; standing = Some rule }
+counted [] label seen tally rule room =
     let n : seen ≡ seen + 0 = omega arith in
     let m : tally ≡ tally + 0 = omega arith in
     λ i. record { label = label; seen = n i; tally = m i; standing = Some rule }
-counted (table ∷ tables) label seen tally rule =
+counted (table ∷ tables) label seen tally rule room =
     let whole = sum_by-cons (λ (shown : ProblemFacts × TableFacts). marks_of rule shown.0 shown.1) table tables in
+    let first = raised-below tally (marks_of rule table.0 table.1) (omega (arith, room, whole)) in
     let n : (seen + 1) + length tables ≡ seen + length (table ∷ tables) = omega arith in
     let m : (tally + marks_of rule table.0 table.1) + tally_of rule tables ≡ tally + tally_of rule (table ∷ tables) = omega (arith, whole) in
-    counted tables label (seen + 1) (tally + marks_of rule table.0 table.1) rule ∙ (λ i. record { label = label; seen = n i; tally = m i; standing = Some rule })
+    ap (λ risen. seat_after tables (record { label = label; seen = seen + 1; tally = risen; standing = Some rule })) first
+    ∙ counted tables label (seen + 1) (tally + marks_of rule table.0 table.1) rule (omega (arith, room, whole))
+    ∙ (λ i. record { label = label; seen = n i; tally = m i; standing = Some rule })
 
 -- one that stands has seen each table, and its tally is that of its rule
-pub stood-through : (tables : List (ProblemFacts × TableFacts)) (label : List ℕ) (rule : Rule) → seat_after tables (new_seat label rule) ≡ record { label = label; seen = length tables; tally = tally_of (asked rule) tables; standing = Some (asked rule) }
-stood-through tables label rule =
+pub stood-through : (tables : List (ProblemFacts × TableFacts)) (label : List ℕ) (rule : Rule) → AreFew tables → seat_after tables (new_seat label rule) ≡ record { label = label; seen = length tables; tally = tally_of (asked rule) tables; standing = Some (asked rule) }
+stood-through tables label rule few =
     let n : 0 + length tables ≡ length tables = omega arith in
     let m : 0 + tally_of (asked rule) tables ≡ tally_of (asked rule) tables = omega arith in
-    counted tables label 0 0 (asked rule) ∙ (λ i. record { label = label; seen = n i; tally = m i; standing = Some (asked rule) })
+    let below = few-marked (asked rule) tables few in
+    counted tables label 0 0 (asked rule) (omega (arith, below)) ∙ (λ i. record { label = label; seen = n i; tally = m i; standing = Some (asked rule) })
 
 -- one that stands no more stays as it is
 pub left-alone : (tables : List (ProblemFacts × TableFacts)) (seat : SeatFacts) → seat_after tables (ended seat) ≡ ended seat

@@ -1,20 +1,47 @@
 -- Lists of seats, place by place.
 use Rattle.std.proofs.Common.{◌≡◌, ◌∙◌, ℕ, zero, suc, ◌+◌, ◌<◌, ◌≤◌, List, [], ◌∷◌, ◌++◌, Bool, true, false, refl, sym, subst, ap, append_assoc, arith, get_or, length, map, set}
-use Rattle.std.proofs.lemmas.List.Elements.{All-cons, All-head, All-map, All-nil, All-tail}
+use Rattle.std.proofs.lemmas.List.Elements.{All-tail}
 use borrow.Author.Tests.{lt-ltb}
 use Rattle.std.specs.Prelude.{All, Option, None, Some, if◌then◌else◌, is_some, nat_lt, not, position}
 use Rattle.std.specs.List.{position_or_len}
-use Rattle.sut_review.specs.Seats.{HasRoom, SeatFacts, dismissed_at, ended, stands_at}
+use Rattle.sut_review.specs.Seats.{SeatFacts, dismissed_at, ended, stands_at}
 
 -- each seat of a list became what g gives of it
-pub each-seat : {A : Type 0} (f : A → SeatFacts) (g : SeatFacts → SeatFacts) (xs ys : List A) → length ys ≡ length xs → ((k : ℕ) (d : A) → k < length xs → f (get_or ys k d) ≡ g (f (get_or xs k d))) → map f ys ≡ map g (map f xs)
-each-seat f g [] [] e h = refl
-each-seat f g (x ∷ xs) [] e h = absurd (omega arith)
-each-seat f g [] (y ∷ ys) e h = absurd (omega arith)
-each-seat f g (x ∷ xs) (y ∷ ys) e h =
-    let first : f y ≡ g (f x) = h 0 x (omega arith) in
-    let rest : map f ys ≡ map g (map f xs) = each-seat f g xs ys (omega arith) (λ k d l. h (suc k) d (omega arith)) in
+pub each-seat : {A : Type 0} (after before : A → SeatFacts) (g : SeatFacts → SeatFacts) (xs ys : List A) → length ys ≡ length xs → ((k : ℕ) (d : A) → k < length xs → after (get_or ys k d) ≡ g (before (get_or xs k d))) → map after ys ≡ map g (map before xs)
+each-seat after before g [] [] e h = refl
+each-seat after before g (x ∷ xs) [] e h = absurd (omega arith)
+each-seat after before g [] (y ∷ ys) e h = absurd (omega arith)
+each-seat after before g (x ∷ xs) (y ∷ ys) e h =
+    let first : after y ≡ g (before x) = h 0 x (omega arith) in
+    let rest : map after ys ≡ map g (map before xs) = each-seat after before g xs ys (omega arith) (λ k d l. h (suc k) d (omega arith)) in
     λ i. first i ∷ rest i
+
+-- a place in the list has its element, whatever stands for the others
+any-default : {A : Type 0} (xs : List A) (k : ℕ) (d e : A) → k < length xs → get_or xs k d ≡ get_or xs k e
+any-default [] k d e l = absurd (omega arith)
+any-default (x ∷ xs) zero d e l = refl
+any-default (x ∷ xs) (suc k) d e l = any-default xs k d e (omega arith)
+
+before-set : {A : Type 0} (f : A → SeatFacts) (want : ℕ → A → SeatFacts) (xs : List A) (i : ℕ) (y : A) → i < length xs → ((d : A) → f y ≡ want i d) → ((k : ℕ) (d : A) → k < i → f (get_or xs k d) ≡ want k d) → (k : ℕ) (d : A) → k < i + 1 → f (get_or (set xs i y) k d) ≡ want k d
+before-set f want [] i y l here before k d m = absurd (omega arith)
+before-set f want (x ∷ xs) zero y l here before zero d m = here d
+before-set f want (x ∷ xs) zero y l here before (suc k) d m = absurd (omega arith)
+before-set f want (x ∷ xs) (suc i) y l here before zero d m = before 0 d (omega arith)
+before-set f want (x ∷ xs) (suc i) y l here before (suc k) d m =
+    before-set f (λ j e. want (suc j) e) xs i y (omega arith) here (λ j e n. before (suc j) e (omega arith)) k d (omega arith)
+
+-- with the seat at one more place changed, each seat so far became what g gives of it
+pub one-more : {A : Type 0} (after before : A → SeatFacts) (g : SeatFacts → SeatFacts) (xs ys : List A) (i : ℕ) (was is : A) → i < length ys → was ≡ get_or ys i was → ((d : A) → get_or ys i d ≡ get_or xs i d) → after is ≡ g (before was) → ((k : ℕ) (d : A) → k < i → after (get_or ys k d) ≡ g (before (get_or xs k d))) → (k : ℕ) (d : A) → k < i + 1 → after (get_or (set ys i is) k d) ≡ g (before (get_or xs k d))
+one-more after before g xs ys i was is l there same e earlier =
+    before-set after (λ k d. g (before (get_or xs k d))) ys i is l (λ d. e ∙ ap (λ s. g (before s)) (there ∙ any-default ys i was d l ∙ same d)) earlier
+
+-- the seats after a place that was changed are as they were
+pub after-set : {A : Type 0} (xs : List A) (i : ℕ) (y : A) (k : ℕ) (d : A) → i < k → get_or (set xs i y) k d ≡ get_or xs k d
+after-set [] i y k d l = refl
+after-set (x ∷ xs) zero y zero d l = absurd (omega arith)
+after-set (x ∷ xs) zero y (suc k) d l = refl
+after-set (x ∷ xs) (suc i) y zero d l = refl
+after-set (x ∷ xs) (suc i) y (suc k) d l = after-set xs i y k d (omega arith)
 
 changed : {A : Type 0} (f : A → SeatFacts) (xs : List A) (k : ℕ) (y d : A) → k < length xs → f y ≡ ended (f (get_or xs k d)) → map f (set xs k y) ≡ dismissed_at k (map f xs)
 changed f [] k y d l e = absurd (omega arith)
@@ -53,33 +80,6 @@ standing-at f (x ∷ xs) (suc k) d l = standing-at f xs k d (omega arith)
 
 pub stands-there : {A : Type 0} (f : A → SeatFacts) (xs : List A) (k : ℕ) (was : A) (stood : Bool) → k < length xs → was ≡ get_or xs k was → stood ≡ is_some (f was).standing → stood ≡ stands_at k (map f xs)
 stands-there f xs k was stood l there e = e ∙ ap (λ s. is_some (f s).standing) there ∙ standing-at f xs k was l
-
--- ---- room
-
-room-pushed : {A : Type 0} (f : A → SeatFacts) (n : ℕ) (xs : List A) (x : A) → ((k : ℕ) (d : A) → k < length xs → HasRoom n (f (get_or xs k d))) → HasRoom n (f x) → (k : ℕ) (d : A) → k < length (xs ++ x ∷ []) → HasRoom n (f (get_or (xs ++ x ∷ []) k d))
-room-pushed f n [] x all here zero d l = here
-room-pushed f n [] x all here (suc k) d l = absurd (omega arith)
-room-pushed f n (y ∷ xs) x all here zero d l = all 0 d (omega arith)
-room-pushed f n (y ∷ xs) x all here (suc k) d l = room-pushed f n xs x (λ j e m. all (suc j) e (omega arith)) here k d (omega arith)
-
--- each seat of a list has room
-pub room-each : {A : Type 0} (f : A → SeatFacts) (n : ℕ) (xs : List A) → All (HasRoom n) (map f xs) → (k : ℕ) (d : A) → k < length xs → HasRoom n (f (get_or xs k d))
-room-each f n [] a k d l = absurd (omega arith)
-room-each f n (x ∷ xs) a zero d l = All-head (HasRoom n) (f x) (map f xs) a
-room-each f n (x ∷ xs) a (suc k) d l = room-each f n xs (All-tail (HasRoom n) (f x) (map f xs) a) k d (omega arith)
-
-pub room-all : {A : Type 0} (f : A → SeatFacts) (n : ℕ) (xs : List A) → ((k : ℕ) (d : A) → k < length xs → HasRoom n (f (get_or xs k d))) → All (HasRoom n) (map f xs)
-room-all f n xs all = All-map (HasRoom n) f xs all
-
-room-ended : (n : ℕ) (seat : SeatFacts) → HasRoom n seat → HasRoom n (ended seat)
-room-ended n seat room = record { seen = room.seen; tally = room.tally }
-
-pub room-dismissed : (n k : ℕ) (seats : List SeatFacts) → All (HasRoom n) seats → All (HasRoom n) (dismissed_at k seats)
-room-dismissed n k [] a = All-nil (HasRoom n)
-room-dismissed n zero (seat ∷ seats) a =
-    All-cons (HasRoom n) (ended seat) seats (room-ended n seat (All-head (HasRoom n) seat seats a)) (All-tail (HasRoom n) seat seats a)
-room-dismissed n (suc k) (seat ∷ seats) a =
-    All-cons (HasRoom n) seat (dismissed_at k seats) (All-head (HasRoom n) seat seats a) (room-dismissed n k seats (All-tail (HasRoom n) seat seats a))
 
 -- ---- the first that passes a test
 
@@ -137,7 +137,3 @@ seated f new old made seat left rest object all first is before pushed =
 
 pub rest-all : {B : Type 0} (P : B → Type 0) (left rest : List B) (object : B) → left ≡ object ∷ rest → All P left → All P rest
 rest-all P left rest object first a = All-tail P object rest (subst (All P) first a)
-
-pub room-made : {A : Type 0} (f : A → SeatFacts) (n : ℕ) (old made : List A) (x : A) → made ≡ old ++ x ∷ [] → ((k : ℕ) (d : A) → k < length old → HasRoom n (f (get_or old k d))) → HasRoom n (f x) → (k : ℕ) (d : A) → k < length made → HasRoom n (f (get_or made k d))
-room-made f n old made x pushed all here =
-    subst (λ xs. (k : ℕ) (d : _) → k < length xs → HasRoom n (f (get_or xs k d))) (sym pushed) (room-pushed f n old x all here)

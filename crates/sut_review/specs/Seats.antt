@@ -1,5 +1,5 @@
 -- The seats of a panel, one for each reviewer.
-use Rattle.std.specs.Prelude.{◌&&◌, ℕ, zero, suc, ◌+◌, ◌*◌, ◌≤◌, Bool, false, List, [], ◌∷◌, map, Option, None, Some, if◌then◌else◌, is_some, option_map}
+use Rattle.std.specs.Prelude.{◌&&◌, ℕ, zero, suc, ◌+◌, ◌^◌, ◌≤◌, nat_lt, Bool, false, List, [], ◌∷◌, All, length, map, Option, None, Some, if◌then◌else◌, is_some, option_map}
 use Rattle.std.specs.Str.{bytes_eq}
 use Rattle.sut_tables.specs.ProblemFacts.{ProblemFacts}
 use Rattle.sut_tables.specs.TableFacts.{TableFacts}
@@ -17,11 +17,17 @@ abbrev pub told_tally : {O : Type 0} → (O → ℕ) → ℕ → Option O → �
 told_tally marked tally None = tally
 told_tally marked tally (Some object) = marked object
 
--- a seat by what it keeps, with the rule and the tally that its boxed object tells; it stands while the object is there
-abbrev pub seat_of : {O : Type 0} → (O → Rule) → (O → ℕ) → List ℕ → ℕ → ℕ → Option O → SeatFacts
-seat_of rule marked label seen tally object = record {
+-- the number of tables shown to the panel, or the last one where no object is left
+abbrev pub told_seen : {O : Type 0} → ℕ → ℕ → Option O → ℕ
+told_seen shown seen None = seen
+told_seen shown seen (Some object) = shown
+
+-- a seat of a panel that was shown this many tables, by what it keeps, with the rule and the tally that its boxed object
+-- tells; it stands while the object is there
+abbrev pub seat_of : {O : Type 0} → (O → Rule) → (O → ℕ) → ℕ → List ℕ → ℕ → ℕ → Option O → SeatFacts
+seat_of rule marked shown label seen tally object = record {
   label = label;
-  seen = seen;
+  seen = told_seen shown seen object;
   tally = told_tally marked tally object;
   standing = option_map (λ o. asked (rule o)) object;
 }
@@ -34,10 +40,14 @@ seats_of seats facts = map facts seats
 abbrev pub new_seat : List ℕ → Rule → SeatFacts
 new_seat label rule = record { label = label; seen = 0; tally = 0; standing = Some (asked rule) }
 
+-- the tally with more rows marked; one that has reached 2^63 stands still, since its reviewer may see no further table
+abbrev pub raised : ℕ → ℕ → ℕ
+raised tally more = if nat_lt tally (2 ^ 63) then tally + more else tally
+
 -- it sees a table by its rule
 abbrev pub sees : ProblemFacts → TableFacts → SeatFacts → Option Rule → SeatFacts
 sees p t seat None = seat
-sees p t seat (Some rule) = record seat { seen = seat.seen + 1; tally = seat.tally + marks_of rule p t }
+sees p t seat (Some rule) = record seat { seen = seat.seen + 1; tally = raised seat.tally (marks_of rule p t) }
 
 -- one that stands sees the table, and nothing changes for one that was dismissed
 abbrev pub seat_shown : ProblemFacts → TableFacts → SeatFacts → SeatFacts
@@ -83,7 +93,7 @@ dismissed label [] = []
 dismissed label (seat ∷ seats) =
     if stands_with label seat then ended seat ∷ seats else seat ∷ dismissed label seats
 
--- it may be shown one more table: it has seen at most this many, each of at most 147,456 rows
-pub record HasRoom (shown : ℕ) (seat : SeatFacts) : Type 0 where
-  pub seen : seat.seen ≤ shown
-  pub tally : seat.tally ≤ shown * 147456
+-- at most 64 tables, each of a problem of at most 147,456 rows, as every problem is
+pub record AreFew (tables : List (ProblemFacts × TableFacts)) : Type 0 where
+  pub number : length tables ≤ 64
+  pub rows : All (λ (shown : ProblemFacts × TableFacts). length shown.0.rows ≤ 147456) tables

@@ -7,7 +7,7 @@ ghost use Rattle.sut_tables.specs.TableFacts.{TableFacts};
 ghost use Rattle.sut_tables.specs.RowFacts.{RowFacts};
 ghost use Rattle.sut_tables.specs.Values.{value_of};
 ghost use Rattle.sut_review.specs.Rules.{IsAsked, Rule, asked, marks_of, tally_of};
-ghost use Rattle.sut_review.specs.Seats.{SeatFacts, dismissed, dismissed_at, ended, new_seat, seat_after, show_all, stands_at, stands_with};
+ghost use Rattle.sut_review.specs.Seats.{AreFew, SeatFacts, dismissed, dismissed_at, ended, new_seat, seat_after, show_all, stands_at, stands_with};
 
 use sut_tables::{Problem, Table};
 
@@ -23,11 +23,12 @@ pub fn values_asked(p: &Problem, t: &Table)
     let _ = t.cells();
 }
 
-/// After any tables, a reviewer that was handed in has seen each of them, and its tally is that of its rule over them.
-/// Tables that are shown after its dismissal change nothing. Each reviewer counts alone. It does nothing.
+/// After the tables that may be shown to a panel, a reviewer that was handed in has seen each of them, and its tally is that
+/// of its rule over them. Tables that are shown after its dismissal change nothing. Each reviewer counts alone. It does
+/// nothing.
 pub fn tallies()
     ensures each { (tables : List (ProblemFacts × TableFacts)) (seats : List SeatFacts) → show_all tables seats ≡ map (seat_after tables) seats }
-    ensures stood { (tables : List (ProblemFacts × TableFacts)) (label : List ℕ) (rule : Rule) → seat_after tables (new_seat label rule) ≡ record {
+    ensures stood { (tables : List (ProblemFacts × TableFacts)) (label : List ℕ) (rule : Rule) → AreFew tables → seat_after tables (new_seat label rule) ≡ record {
       label = label;
       seen = length tables;
       tally = tally_of (asked rule) tables;

@@ -2,7 +2,7 @@
 
 ghost use Rattle.std.specs.Prelude.{◌≡◌, ◌<◌, ◌+◌, All, IfOk, map, position};
 ghost use Rattle.sut_tables.specs.Problems.{IsTableOf};
-ghost use Rattle.sut_review.specs.Seats.{HasRoom, all_shown, dismissed_at, new_seat, seat_of, seats_of, stands_at, stands_with};
+ghost use Rattle.sut_review.specs.Seats.{all_shown, dismissed_at, new_seat, seat_of, seats_of, stands_at, stands_with};
 ghost use Rattle.sut_review.specs.ReviewText.{review_text};
 
 use crate::reviewer::Reviewer;
@@ -25,8 +25,7 @@ impl Panel {
     pub fn new(alloc: Global, list: Vec<Box<dyn Reviewer>>) -> Result<Panel, NoMemory>
         requires { All (λ b. marked b ≡ 0) list.items }
         ensures shown { IfOk result (λ panel. panel.shown ≡ 0) }
-        ensures room { IfOk result (λ panel. All (HasRoom panel.shown) (seats_of panel.seats.items (λ seat. seat_of (λ b. rule b) (λ b. marked b) seat.label.items seat.seen seat.tally seat.object))) }
-        ensures seats { IfOk result (λ panel. seats_of panel.seats.items (λ seat. seat_of (λ b. rule b) (λ b. marked b) seat.label.items seat.seen seat.tally seat.object) ≡ map (λ b. new_seat (name b) (rule b)) list.items) }
+        ensures seats { IfOk result (λ panel. seats_of panel.seats.items (λ seat. seat_of (λ b. rule b) (λ b. marked b) panel.shown seat.label.items seat.seen seat.tally seat.object) ≡ map (λ b. new_seat (name b) (rule b)) list.items) }
     {
         let mut seats = Vec::new(alloc);
         for object in list {
@@ -36,37 +35,35 @@ impl Panel {
     }
 
     /// Each reviewer that stands sees the table once; nothing changes for one that was dismissed. At most 64 tables may be
-    /// shown to a panel.
+    /// shown to a panel. (A tally of 2^63 or more would stand still: 64 tables never reach it.)
     pub fn review_all(&mut self, p: &Problem, t: &Table)
         requires few { self.old.shown < 64 }
-        requires room { All (HasRoom self.old.shown) (seats_of self.old.seats.items (λ seat. seat_of (λ b. rule b) (λ b. marked b) seat.label.items seat.seen seat.tally seat.object)) }
         requires of { IsTableOf p.now t.now }
         ensures shown { self.new.shown ≡ self.old.shown + 1 }
-        ensures room { All (HasRoom self.new.shown) (seats_of self.new.seats.items (λ seat. seat_of (λ b. rule b) (λ b. marked b) seat.label.items seat.seen seat.tally seat.object)) }
-        ensures seats { seats_of self.new.seats.items (λ seat. seat_of (λ b. rule b) (λ b. marked b) seat.label.items seat.seen seat.tally seat.object) ≡ all_shown p.now t.now (seats_of self.old.seats.items (λ seat. seat_of (λ b. rule b) (λ b. marked b) seat.label.items seat.seen seat.tally seat.object)) }
+        ensures seats { seats_of self.new.seats.items (λ seat. seat_of (λ b. rule b) (λ b. marked b) self.new.shown seat.label.items seat.seen seat.tally seat.object) ≡ all_shown p.now t.now (seats_of self.old.seats.items (λ seat. seat_of (λ b. rule b) (λ b. marked b) self.old.shown seat.label.items seat.seen seat.tally seat.object)) }
     {
-        show_all(&mut self.seats, self.shown, p, t);
+        show_all(&mut self.seats, p, t);
         self.shown += 1;
     }
 
     /// Drops the reviewer at a place, counted from 0, and keeps its label, the number of tables shown to it and its tally.
     /// False exactly where none stands at that place, and then nothing changes.
     pub fn dismiss(&mut self, index: usize) -> bool
-        ensures answer { result ≡ stands_at index (seats_of self.old.seats.items (λ seat. seat_of (λ b. rule b) (λ b. marked b) seat.label.items seat.seen seat.tally seat.object)) }
+        ensures answer { result ≡ stands_at index (seats_of self.old.seats.items (λ seat. seat_of (λ b. rule b) (λ b. marked b) self.old.shown seat.label.items seat.seen seat.tally seat.object)) }
         ensures shown { self.new.shown ≡ self.old.shown }
-        ensures room { All (HasRoom self.old.shown) (seats_of self.old.seats.items (λ seat. seat_of (λ b. rule b) (λ b. marked b) seat.label.items seat.seen seat.tally seat.object)) → All (HasRoom self.new.shown) (seats_of self.new.seats.items (λ seat. seat_of (λ b. rule b) (λ b. marked b) seat.label.items seat.seen seat.tally seat.object)) }
-        ensures seats { seats_of self.new.seats.items (λ seat. seat_of (λ b. rule b) (λ b. marked b) seat.label.items seat.seen seat.tally seat.object) ≡ dismissed_at index (seats_of self.old.seats.items (λ seat. seat_of (λ b. rule b) (λ b. marked b) seat.label.items seat.seen seat.tally seat.object)) }
+        ensures seats { seats_of self.new.seats.items (λ seat. seat_of (λ b. rule b) (λ b. marked b) self.new.shown seat.label.items seat.seen seat.tally seat.object) ≡ dismissed_at index (seats_of self.old.seats.items (λ seat. seat_of (λ b. rule b) (λ b. marked b) self.old.shown seat.label.items seat.seen seat.tally seat.object)) }
     {
         if index >= self.seats.len() {
             return false;
         }
+        let shown = self.shown;
         let seat = &mut self.seats[index];
-        leave(seat)
+        leave(seat, shown)
     }
 
     /// The place of the first reviewer that stands with this label; None exactly where none does.
     pub fn standing(&self, label: &[u8]) -> Option<usize>
-        ensures { result ≡ position (stands_with label.now) (seats_of self.now.seats.items (λ seat. seat_of (λ b. rule b) (λ b. marked b) seat.label.items seat.seen seat.tally seat.object)) }
+        ensures { result ≡ position (stands_with label.now) (seats_of self.now.seats.items (λ seat. seat_of (λ b. rule b) (λ b. marked b) self.now.shown seat.label.items seat.seen seat.tally seat.object)) }
     {
         for (place, seat) in self.seats.iter().enumerate() {
             if is_standing(seat, label) {
@@ -79,11 +76,11 @@ impl Panel {
     /// `review.csv`: under the header `label,seen,tally,standing` a line for each reviewer, in the order in which they were
     /// handed in, with `yes` or `no` in the last field.
     pub fn text(&self, alloc: Global) -> Result<Vec<u8>, NoMemory>
-        ensures { IfOk result (λ v. v.items ≡ review_text (seats_of self.now.seats.items (λ seat. seat_of (λ b. rule b) (λ b. marked b) seat.label.items seat.seen seat.tally seat.object))) }
+        ensures { IfOk result (λ v. v.items ≡ review_text (seats_of self.now.seats.items (λ seat. seat_of (λ b. rule b) (λ b. marked b) self.now.shown seat.label.items seat.seen seat.tally seat.object))) }
     {
         let mut out = Vec::new(alloc);
         put_bytes(&mut out, b"label,seen,tally,standing\n")?;
-        put_seats(&mut out, &self.seats)?;
+        put_seats(&mut out, &self.seats, self.shown)?;
         Ok(out)
     }
 }

@@ -1,13 +1,13 @@
 // The seats of a panel.
 
-ghost use Rattle.std.specs.Prelude.{◌≡◌, ◌≤◌, ◌<◌, ◌+◌, ◌*◌, ◌^◌, ◌++◌, ℕ, IfOk, OnOk, is_some, map, slice_index_or, vec_len};
+ghost use Rattle.std.specs.Prelude.{◌≡◌, ◌<◌, ◌+◌, ◌^◌, ◌++◌, ℕ, IfOk, OnOk, is_some, map, vec_len};
 ghost use Rattle.std.specs.List.{flat_map};
 ghost use Rattle.sut_tables.specs.Problems.{IsTableOf};
 ghost use Rattle.sut_text.specs.Fields.{field_bytes};
 ghost use Rattle.sut_text.specs.Text.{field_text, line_text};
 ghost use Rattle.sut_review.specs.Rules.{SameRule, asked, marks_of};
 ghost use Rattle.sut_review.specs.ReviewText.{seat_line, yes_or_no};
-ghost use Rattle.sut_review.specs.Seats.{HasRoom, all_shown, ended, new_seat, seat_of, seat_shown, seats_of, stands_with};
+ghost use Rattle.sut_review.specs.Seats.{all_shown, ended, new_seat, raised, seat_of, seat_shown, seats_of, stands_with, told_seen, told_tally};
 
 use crate::laws::values_asked;
 use crate::reviewer::Reviewer;
@@ -17,7 +17,8 @@ use sut_tables::{Problem, Table};
 use sut_text::fields::{Field, put_line_end};
 use sut_text::put_field;
 
-// A reviewer's seat. One that was dismissed has no object left; then `tally` is its last tally.
+// A reviewer's seat. One that was dismissed has no object left; then `seen` is the number of tables shown to it, and `tally`
+// its last tally. One that stands has seen each table that the panel was shown, and its object tells the tally.
 #[derive(Drop)]
 pub(crate) struct Seat {
     pub(crate) label: Vec<u8>,
@@ -36,16 +37,17 @@ fn see_in_box(object: &mut Box<dyn Reviewer>, p: &Problem, t: &Table)
     object.see(p, t);
 }
 
-// Shows the table to a boxed reviewer, whose rule stays as far as it is asked.
+// Shows the table to a boxed reviewer, whose rule stays as far as it is asked. One whose tally has reached 2^63 may not be
+// shown another table.
 fn show_box(object: &mut Box<dyn Reviewer>, p: &Problem, t: &Table)
-    requires few { marked object.old < 2 ^ 63 }
     requires of { IsTableOf p.now t.now }
-    ensures tally { marked object.new ≡ marked object.old + marks_of (asked (rule object.old)) p.now t.now }
-    ensures more { marked object.new ≤ marked object.old + 147456 }
+    ensures tally { marked object.new ≡ raised (marked object.old) (marks_of (asked (rule object.old)) p.now t.now) }
     ensures rule { asked (rule object.new) ≡ asked (rule object.old) }
 {
     values_asked(p, t);
-    see_in_box(object, p, t);
+    if tally_of(object) < 1 << 63 {
+        see_in_box(object, p, t);
+    }
 }
 
 fn tally_of(object: &Box<dyn Reviewer>) -> u64
@@ -65,8 +67,7 @@ fn copied_label(alloc: Global, object: &Box<dyn Reviewer>) -> Result<Vec<u8>, No
 // The seat of a reviewer that is handed in.
 pub(crate) fn seat_for(alloc: Global, object: Box<dyn Reviewer>) -> Result<Seat, NoMemory>
     requires { marked object ≡ 0 }
-    ensures seat { IfOk result (λ seat. seat_of (λ b. rule b) (λ b. marked b) seat.label.items seat.seen seat.tally seat.object ≡ new_seat (name object) (rule object)) }
-    ensures room { IfOk result (λ seat. HasRoom 0 (seat_of (λ b. rule b) (λ b. marked b) seat.label.items seat.seen seat.tally seat.object)) }
+    ensures { IfOk result (λ seat. seat_of (λ b. rule b) (λ b. marked b) 0 seat.label.items seat.seen seat.tally seat.object ≡ new_seat (name object) (rule object)) }
 {
     let label = copied_label(alloc, &object)?;
     Ok(Seat {
@@ -78,26 +79,23 @@ pub(crate) fn seat_for(alloc: Global, object: Box<dyn Reviewer>) -> Result<Seat,
 }
 
 // Shows the table to the reviewer, if it stands.
-pub(crate) fn show(seat: &mut Seat, shown: u64, p: &Problem, t: &Table)
-    requires few { shown < 64 }
-    requires room { HasRoom shown (seat_of (λ b. rule b) (λ b. marked b) seat.old.label.items seat.old.seen seat.old.tally seat.old.object) }
-    requires of { IsTableOf p.now t.now }
-    ensures shown { seat_of (λ b. rule b) (λ b. marked b) seat.new.label.items seat.new.seen seat.new.tally seat.new.object ≡ seat_shown p.now t.now (seat_of (λ b. rule b) (λ b. marked b) seat.old.label.items seat.old.seen seat.old.tally seat.old.object) }
-    ensures room { HasRoom (shown + 1) (seat_of (λ b. rule b) (λ b. marked b) seat.new.label.items seat.new.seen seat.new.tally seat.new.object) }
+pub(crate) fn show(seat: &mut Seat, p: &Problem, t: &Table)
+    requires { IsTableOf p.now t.now }
+    ensures { (shown : ℕ) → seat_of (λ b. rule b) (λ b. marked b) (shown + 1) seat.new.label.items seat.new.seen seat.new.tally seat.new.object ≡ seat_shown p.now t.now (seat_of (λ b. rule b) (λ b. marked b) shown seat.old.label.items seat.old.seen seat.old.tally seat.old.object) }
 {
     if let Some(object) = &mut seat.object {
         show_box(object, p, t);
-        seat.seen += 1;
     }
 }
 
-// Takes the object out of the seat, if there is one, and keeps its tally.
-pub(crate) fn leave(seat: &mut Seat) -> bool
-    ensures stood { result ≡ is_some (seat_of (λ b. rule b) (λ b. marked b) seat.old.label.items seat.old.seen seat.old.tally seat.old.object).standing }
-    ensures left { seat_of (λ b. rule b) (λ b. marked b) seat.new.label.items seat.new.seen seat.new.tally seat.new.object ≡ ended (seat_of (λ b. rule b) (λ b. marked b) seat.old.label.items seat.old.seen seat.old.tally seat.old.object) }
+// Takes the object out of the seat, if there is one, and keeps its tally and the number of tables that were shown.
+pub(crate) fn leave(seat: &mut Seat, shown: u64) -> bool
+    ensures stood { result ≡ is_some (seat_of (λ b. rule b) (λ b. marked b) shown seat.old.label.items seat.old.seen seat.old.tally seat.old.object).standing }
+    ensures left { seat_of (λ b. rule b) (λ b. marked b) shown seat.new.label.items seat.new.seen seat.new.tally seat.new.object ≡ ended (seat_of (λ b. rule b) (λ b. marked b) shown seat.old.label.items seat.old.seen seat.old.tally seat.old.object) }
 {
     match seat.object.take() {
         Some(object) => {
+            seat.seen = shown;
             seat.tally = tally_of(&object);
             drop(object);
             true
@@ -106,9 +104,19 @@ pub(crate) fn leave(seat: &mut Seat) -> bool
     }
 }
 
+// The number of tables that the reviewer has seen.
+fn seat_seen(seat: &Seat, shown: u64) -> u64
+    ensures { result ≡ told_seen shown seat.now.seen seat.now.object }
+{
+    match &seat.object {
+        Some(_) => shown,
+        None => seat.seen,
+    }
+}
+
 // The tally of the object, or the last one.
 fn seat_tally(seat: &Seat) -> u64
-    ensures { result ≡ (seat_of (λ b. rule b) (λ b. marked b) seat.now.label.items seat.now.seen seat.now.tally seat.now.object).tally }
+    ensures { result ≡ told_tally (λ b. marked b) seat.now.tally seat.now.object }
 {
     match &seat.object {
         Some(object) => tally_of(object),
@@ -134,14 +142,14 @@ fn put_label(out: &mut Vec<u8>, label: &[u8]) -> Result<(), NoMemory>
 }
 
 // Appends the reviewer's line.
-pub(crate) fn put_seat(out: &mut Vec<u8>, seat: &Seat) -> Result<(), NoMemory>
-    ensures { OnOk result (out.new.items ≡ out.old.items ++ line_text (seat_line (seat_of (λ b. rule b) (λ b. marked b) seat.now.label.items seat.now.seen seat.now.tally seat.now.object))) }
+pub(crate) fn put_seat(out: &mut Vec<u8>, seat: &Seat, shown: u64) -> Result<(), NoMemory>
+    ensures { OnOk result (out.new.items ≡ out.old.items ++ line_text (seat_line (seat_of (λ b. rule b) (λ b. marked b) shown seat.now.label.items seat.now.seen seat.now.tally seat.now.object))) }
 {
     put_label(out, &seat.label)?;
     put_line_end(
         out,
         &[
-            Field::Count(seat.seen),
+            Field::Count(seat_seen(seat, shown)),
             Field::Count(seat_tally(seat)),
             standing_field(seat.object.is_some()),
         ],
@@ -150,32 +158,29 @@ pub(crate) fn put_seat(out: &mut Vec<u8>, seat: &Seat) -> Result<(), NoMemory>
 }
 
 // Shows the table to each reviewer that stands.
-pub(crate) fn show_all(seats: &mut Vec<Seat>, shown: u64, p: &Problem, t: &Table)
-    requires few { shown < 64 }
-    requires room { (k : ℕ) (d : _) → k < vec_len seats.old → HasRoom shown (seat_of (λ b. rule b) (λ b. marked b) (slice_index_or seats.old.items k d).label.items (slice_index_or seats.old.items k d).seen (slice_index_or seats.old.items k d).tally (slice_index_or seats.old.items k d).object) }
-    requires of { IsTableOf p.now t.now }
-    ensures seats { seats_of seats.new.items (λ seat. seat_of (λ b. rule b) (λ b. marked b) seat.label.items seat.seen seat.tally seat.object) ≡ all_shown p.now t.now (seats_of seats.old.items (λ seat. seat_of (λ b. rule b) (λ b. marked b) seat.label.items seat.seen seat.tally seat.object)) }
+pub(crate) fn show_all(seats: &mut Vec<Seat>, p: &Problem, t: &Table)
+    requires { IsTableOf p.now t.now }
+    ensures seats { (shown : ℕ) → seats_of seats.new.items (λ seat. seat_of (λ b. rule b) (λ b. marked b) (shown + 1) seat.label.items seat.seen seat.tally seat.object) ≡ all_shown p.now t.now (seats_of seats.old.items (λ seat. seat_of (λ b. rule b) (λ b. marked b) shown seat.label.items seat.seen seat.tally seat.object)) }
     ensures places { vec_len seats.new ≡ vec_len seats.old }
-    ensures room { (k : ℕ) (d : _) → k < vec_len seats.new → HasRoom (shown + 1) (seat_of (λ b. rule b) (λ b. marked b) (slice_index_or seats.new.items k d).label.items (slice_index_or seats.new.items k d).seen (slice_index_or seats.new.items k d).tally (slice_index_or seats.new.items k d).object) }
 {
     for i in 0..seats.len() {
-        show(&mut seats[i], shown, p, t);
+        show(&mut seats[i], p, t);
     }
 }
 
-// Whether the reviewer stands and has this label.
+// Whether the reviewer stands and has this label, however many tables were shown.
 pub(crate) fn is_standing(seat: &Seat, label: &[u8]) -> bool
-    ensures { result ≡ stands_with label.now (seat_of (λ b. rule b) (λ b. marked b) seat.now.label.items seat.now.seen seat.now.tally seat.now.object) }
+    ensures { result ≡ stands_with label.now (seat_of (λ b. rule b) (λ b. marked b) 0 seat.now.label.items seat.now.seen seat.now.tally seat.now.object) }
 {
     seat.object.is_some() && seat.label.as_slice() == label
 }
 
 // Appends the lines of reviewers.
-pub(crate) fn put_seats(out: &mut Vec<u8>, seats: &[Seat]) -> Result<(), NoMemory>
-    ensures { OnOk result (out.new.items ≡ out.old.items ++ flat_map line_text (map seat_line (seats_of seats.now (λ seat. seat_of (λ b. rule b) (λ b. marked b) seat.label.items seat.seen seat.tally seat.object)))) }
+pub(crate) fn put_seats(out: &mut Vec<u8>, seats: &[Seat], shown: u64) -> Result<(), NoMemory>
+    ensures { OnOk result (out.new.items ≡ out.old.items ++ flat_map line_text (map seat_line (seats_of seats.now (λ seat. seat_of (λ b. rule b) (λ b. marked b) shown seat.label.items seat.seen seat.tally seat.object)))) }
 {
     for seat in seats {
-        put_seat(out, seat)?;
+        put_seat(out, seat, shown)?;
     }
     Ok(())
 }

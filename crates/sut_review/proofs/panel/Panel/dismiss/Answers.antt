@@ -1,7 +1,5 @@
-use Rattle.std.proofs.Common.{◌<◌, arith, length, subst, sym}
-use Rattle.std.specs.Prelude.{All}
-use Rattle.sut_review.specs.Seats.{HasRoom}
-use Rattle.sut_review.proofs.SeatLists.{dismissed-past, dismissed-set, room-dismissed, stands-past, stands-there}
+use Rattle.std.proofs.Common.{◌<◌, arith, length, sym}
+use Rattle.sut_review.proofs.SeatLists.{dismissed-past, dismissed-set, stands-past, stands-there}
 use Rattle.sut_review.proofs.panel.Panel.dismiss.Goals as goal
 
 pub returns-then-index-len-clause-answer : goal.returns-then-index-len-clause-answer
@@ -25,7 +23,3 @@ returns-clause-seats g c =
     let size = c.args.self.now.seats.ok.0 in
     let there : c.args.index < length c.args.self.now.seats.items = omega (arith, size, c.len.ensures) in
     dismissed-set _ c.args.self.now.seats.items c.args.index c.leave.new.seat c.index_mut-seat.result.now there c.index_mut-seat.ensures.value c.leave.ensures.left
-
-pub returns-clause-room : goal.returns-clause-room
-returns-clause-room g c = λ room.
-    subst (All (HasRoom c.args.self.now.shown)) (sym (returns-clause-seats g c)) (room-dismissed c.args.self.now.shown c.args.index _ room)
