@@ -1,5 +1,9 @@
-//! Tests of whole runs with reviewers.
+//! Tests of reviewers: in whole runs, and of a panel alone.
 #![tactic(auto)]
 
+#[cfg(test)]
+mod dismissals;
+#[cfg(test)]
+mod odd_value;
 #[cfg(test)]
 mod reviews;
