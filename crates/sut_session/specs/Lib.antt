@@ -1,0 +1,5 @@
+pub mod SessionFacts
+pub mod Standing
+pub mod SessionView
+pub mod SmallSets
+pub mod Following
