@@ -1,5 +1,5 @@
 -- What the fields of a session stand for, and what they keep.
-use Rattle.std.specs.Prelude.{◌≡◌, length, IfSome, Option, None, Some}
+use Rattle.std.specs.Prelude.{length, IfSome, Option, None, Some}
 use Rattle.sut_tables.specs.ProblemFacts.{ProblemFacts}
 use Rattle.flow_residual.specs.Rooms.{IsRoomFor}
 use Rattle.sut_circuit.specs.IsCircuit.{IsCircuit}

@@ -1,5 +1,5 @@
 -- An edit that moves one target a little, and how far a balanced table may go after it.
-use Rattle.std.specs.Prelude.{◌≡◌, ℕ, ◌*◌, ◌≤◌, ℤ, ◌-ℤ◌, unsigned_abs, All, Option, None, Some, if◌then◌else◌}
+use Rattle.std.specs.Prelude.{◌≡◌, ℕ, ◌*◌, ◌≤◌, ℤ, ◌-ℤ◌, unsigned_abs, All, Some, if◌then◌else◌}
 use Rattle.sut_measures.specs.Keys.{measure_key}
 use Rattle.sut_measures.specs.declared.measures.Measure.{Measure}
 use Rattle.sut_tables.specs.InOrder.{same_key}

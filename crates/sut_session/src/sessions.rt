@@ -114,6 +114,8 @@ impl Session {
         ensures near { OnOk result (AfterSmallSet self.old (λ t m d. IfSome self.new.answer (StaysNear self.new.problem t m d))) }
     {
         self.answer = None;
+        // The problem's rows bound its tables.
+        self.problem.kept();
         let answer = answer_to(alloc, &self.problem, &mut self.network, steps)?;
         self.answer = Some(answer);
         Ok(())
