@@ -6,6 +6,10 @@ use Rattle.std.specs.Prelude.{All, Option, None, Some, if◌then◌else◌, is_s
 use Rattle.std.specs.List.{position_or_len}
 use Rattle.sut_review.specs.Seats.{SeatFacts, dismissed_at, ended, stands_at}
 
+-- a function of seats, whose type is that of this one
+abbrev pub like : {A : Type 0} → A → (A → SeatFacts) → A → SeatFacts
+like seat f = f
+
 -- each seat of a list became what g gives of it
 pub each-seat : {A : Type 0} (after before : A → SeatFacts) (g : SeatFacts → SeatFacts) (xs ys : List A) → length ys ≡ length xs → ((k : ℕ) (d : A) → k < length xs → after (get_or ys k d) ≡ g (before (get_or xs k d))) → map after ys ≡ map g (map before xs)
 each-seat after before g [] [] e h = refl

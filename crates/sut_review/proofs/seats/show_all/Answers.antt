@@ -1,7 +1,6 @@
 use Rattle.std.proofs.Common.{◌≡◌, ◌∙◌, ◌+◌, ◌<◌, ◌≤◌, ℕ, arith, length}
 use Rattle.sut_review.specs.Seats.{seat_of, seat_shown}
-use Rattle.sut_review.specs.declared.seats.Seat.{Seat}
-use Rattle.sut_review.proofs.SeatLists.{after-set, each-seat, one-more}
+use Rattle.sut_review.proofs.SeatLists.{after-set, each-seat, like, one-more}
 use Rattle.sut_review.proofs.seats.show_all.Goals as goal
 
 pub loop-i-preserved : goal.loop-i-preserved
@@ -13,7 +12,7 @@ loop-i-preserved g c =
     let itself : i ≤ i = omega arith in
     let later : (k : ℕ) → i + 1 ≤ k → i < k = λ k m. omega (arith, m) in
     let too : (k : ℕ) → i + 1 ≤ k → i ≤ k = λ k m. omega (arith, m) in
-    let facts = λ (shown : ℕ) (seat : Seat _ (λ x. (g.dyn-1.0.entry x).0.Denot)). seat_of (λ b. (goal.Reviewer-dyn g (b.vtable, b.value)).rule b.value) (λ b. (goal.Reviewer-dyn g (b.vtable, b.value)).marked b.value) shown seat.label.items seat.seen seat.tally seat.object in
+    let facts = λ (shown : ℕ). like c.show.new.seat (λ seat. seat_of (λ b. (goal.Reviewer-dyn g (b.vtable, b.value)).rule b.value) (λ b. (goal.Reviewer-dyn g (b.vtable, b.value)).marked b.value) shown seat.label.items seat.seen seat.tally seat.object) in
     record {
       places = c.loop-i.invariant.places;
       shown = λ shown. one-more (facts (shown + 1)) (facts shown) (seat_shown c.args.p.now c.args.t.now) old now i c.index_mut.result.now c.show.new.seat there c.index_mut.ensures.value (λ d. c.loop-i.invariant.rest i d itself) (c.show.ensures shown) (c.loop-i.invariant.shown shown);
