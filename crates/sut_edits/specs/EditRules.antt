@@ -1,5 +1,5 @@
 -- What the edits of a file keep.
-use Rattle.std.specs.Prelude.{IsTrue, All, List}
+use Rattle.std.specs.Prelude.{◌≤◌, IsTrue, All, List}
 use Rattle.sut_classes.specs.ClassLists.{ClassLists}
 use Rattle.sut_measures.specs.Fits.{fits}
 use Rattle.sut_settings.specs.SettingsFacts.{SettingsFacts}
@@ -7,6 +7,7 @@ use Rattle.sut_source.specs.SourceText.{HasGrade}
 use Rattle.sut_edits.specs.declared.edits.Edit.{Edit}
 use Rattle.sut_edits.specs.declared.edits.Edit.TheVariants as edit
 use Rattle.sut_edits.specs.declared.edits.EditLine.{EditLine}
+use Rattle.sut_edits.specs.EditsFile.{balances_in}
 
 -- an edit's measure fits
 abbrev pub FitsClasses : ClassLists → Edit → Type 0
@@ -28,5 +29,7 @@ pub record IsEditOf (s : SettingsFacts) (cs : ClassLists) (e : Edit) : Type 0 wh
   pub fitting : FitsClasses cs e
   pub graded : IsGraded s e
 
-abbrev pub AreEditsOf : SettingsFacts → ClassLists → List EditLine → Type 0
-AreEditsOf s cs edits = All (λ (l : EditLine). IsEditOf s cs l.edit) edits
+-- edits of a file: at most 15 of them are rebalances
+pub record AreEditsOf (s : SettingsFacts) (cs : ClassLists) (edits : List EditLine) : Type 0 where
+  pub each : All (λ (l : EditLine). IsEditOf s cs l.edit) edits
+  pub few : balances_in edits ≤ 15

@@ -1,6 +1,6 @@
 //! The edits of the lines that were read.
 
-ghost use Rattle.std.specs.Prelude.{◌≡◌, ◌≢◌, ◌==◌, ◌++◌, ◌∷◌, [], Ok, Err, IfErr, OnOk, length};
+ghost use Rattle.std.specs.Prelude.{◌≡◌, ◌≢◌, ◌≤◌, ◌==◌, ◌++◌, ◌∷◌, [], Ok, Err, IfErr, OnOk, length};
 ghost use Rattle.csv.specs.Records.{fields_of};
 ghost use Rattle.sut_records.specs.FirstFault.{and_then};
 ghost use Rattle.sut_edits.specs.EditsFile.{balances_in, edit_added, edit_line, has_room_for, is_balance};
@@ -53,6 +53,7 @@ fn has_room_for(edits: &[EditLine], edit: &Edit) -> bool
 // Adds an edit with its line, unless there are too many.
 fn add_edit(edits: &mut Vec<EditLine>, line: u64, edit: Edit) -> Result<(), EditsCause>
     ensures added { OnOk result (edits.new.items ≡ edits.old.items ++ record { line = line; edit = edit } ∷ []) }
+    ensures few { OnOk result (balances_in edits.old.items ≤ 15 → balances_in edits.new.items ≤ 15) }
     ensures value { result ≢ Err EditsCause.NoMemory → edit_added line edits.old.items edit ≡ and_then result (λ _. Ok edits.new.items) }
 {
     if !has_room_for(edits, &edit) {

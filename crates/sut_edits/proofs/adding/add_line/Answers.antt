@@ -29,5 +29,8 @@ returns-in-Err-add_edit-clause-value c lack =
 pub returns-in-Ok-add_edit-clause-good : goal.returns-in-Ok-add_edit-clause-good
 returns-in-Ok-add_edit-clause-good c =
     let Good : EditLine → Type 0 = λ l. IsEditOf c.args.s.now c.args.classes.now l.edit in
-    subst (λ (xs : List EditLine). All Good xs) (sym c.in-Ok-add_edit.ensures.added)
-    (All-push Good c.args.edits.now.items (record { line = c.args.line; edit = c.in-Ok.edit }) c.requires.good c.in-Ok.ensures.good)
+    record {
+      each = subst (λ (xs : List EditLine). All Good xs) (sym c.in-Ok-add_edit.ensures.added)
+          (All-push Good c.args.edits.now.items (record { line = c.args.line; edit = c.in-Ok.edit }) c.requires.good.each c.in-Ok.ensures.good);
+      few = c.in-Ok-add_edit.ensures.few c.requires.good.few;
+    }
