@@ -9,3 +9,4 @@ pub mod SupplyLines
 pub mod UseLines
 pub mod FewTotals
 pub mod TextLength
+pub mod SourceLength

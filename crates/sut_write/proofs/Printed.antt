@@ -38,3 +38,10 @@ table-printed p t ms empty start text live none header lines =
 -- three lines, one after another
 pub three_lines : (a0 a1 a2 a3 l1 l2 l3 : List ℕ) → a0 ≡ [] → a1 ≡ a0 ++ l1 → a2 ≡ a1 ++ l2 → a3 ≡ a2 ++ l3 → a3 ≡ l1 ++ (l2 ++ (l3 ++ []))
 three_lines a0 a1 a2 a3 l1 l2 l3 e0 e1 e2 e3 = rw (e3, e2, e1, e0) (simp (append_assoc, append-nil))
+
+-- a number and a comma, a name, and one field more with the line's end
+pub numbered_line : (old one two new number x : List ℕ) (xs : List (List ℕ)) (last : List ℕ) → one ≡ old ++ (number ++ 44 ∷ []) → two ≡ one ++ fields_text (x ∷ xs) → new ≡ two ++ (flat_map behind (last ∷ []) ++ 10 ∷ [])
+    → new ≡ old ++ line_text (number ∷ (x ∷ (xs ++ last ∷ [])))
+numbered_line old one two new number x xs last p q r =
+    line_then old two new number (x ∷ xs) (last ∷ [])
+    (q ∙ ap (λ t. t ++ fields_text (x ∷ xs)) p ∙ append_assoc old (number ++ 44 ∷ []) (fields_text (x ∷ xs)) ∙ ap (λ t. old ++ t) (append_assoc number (44 ∷ []) (fields_text (x ∷ xs)))) r

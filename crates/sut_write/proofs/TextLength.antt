@@ -55,7 +55,7 @@ value-short (negsuc n) r =
     let small : suc n ≤ 288230376151711744 = omega (arith, ints) in
     let short = length-decimal-le_wide 18 (suc n) (omega arith) (omega arith) (omega arith) in omega arith
 
-range-short : (z : ℤ) → InRange z → length (whole_text z) ≤ 19
+pub range-short : (z : ℤ) → InRange z → length (whole_text z) ≤ 19
 range-short z r = value-short z (record { low = low r.low; high = high r.high })
   where
     low : neg_ℤ (pos 1000000000000) ≤ℤ z → neg_ℤ (pos (2 ^ 58)) ≤ℤ z
@@ -64,7 +64,7 @@ range-short z r = value-short z (record { low = low r.low; high = high r.high })
     high : z ≤ℤ pos 1000000000000 → z ≤ℤ pos (2 ^ 58)
     high h = omega (arith, ints)
 
-aim-short : (o : Option ℤ) (penalty : Penalty) (grade weight : ℕ) → IsAim o penalty grade weight → length (optional_text o) ≤ 19
+pub aim-short : (o : Option ℤ) (penalty : Penalty) (grade weight : ℕ) → IsAim o penalty grade weight → length (optional_text o) ≤ 19
 aim-short None penalty grade weight aim = omega arith
 aim-short (Some x) penalty grade weight aim = range-short x aim.0
 
@@ -79,11 +79,11 @@ found-short q (r ∷ rows) all =
 
 -- ---- lines
 
-record IsShort (n : Name) : Type 0 where
-  kind : length n.kind ≤ 14
-  a : length n.a ≤ 32
-  b : length n.b ≤ 32
-  c : length n.c ≤ 32
+pub record IsShort (n : Name) : Type 0 where
+  pub kind : length n.kind ≤ 14
+  pub a : length n.a ≤ 32
+  pub b : length n.b ≤ 32
+  pub c : length n.c ≤ 32
 
 none : length {A = ℕ} [] ≤ 32
 none = omega arith
@@ -118,7 +118,7 @@ total-short cs k (total.MarginGroup m g) = record { kind = omega arith; a = shor
 total-short cs k (total.TaxGroup t g) = record { kind = omega arith; a = short-place cs k axis.Tax t.0; b = short-place cs k axis.ProductGroup g.0; c = none }
 total-short cs k (total.ItemGroup v h) = record { kind = omega arith; a = short-place cs k axis.Item v.0; b = short-place cs k axis.IndustryGroup h.0; c = none }
 
-name-short : (cs : ClassLists) → IsClasses cs → (m : Measure) → IsShort (measure_name cs m)
+pub name-short : (cs : ClassLists) → IsClasses cs → (m : Measure) → IsShort (measure_name cs m)
 name-short cs k (measure.Cell c) = cell-short cs k c
 name-short cs k (measure.Total u) = total-short cs k u
 

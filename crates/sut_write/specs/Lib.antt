@@ -1,5 +1,6 @@
 pub mod Answers
 pub mod Screen
+pub mod Trail
 pub mod Places
 pub mod Numbers
 pub mod Supply

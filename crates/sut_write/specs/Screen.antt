@@ -1,5 +1,5 @@
--- The lines that `balance` and `generate` print, each a list of words.
-use Rattle.std.specs.Prelude.{ℕ, List, [], ◌∷◌, codes, decimal, length}
+-- The lines that a run prints, each a list of words.
+use Rattle.std.specs.Prelude.{ℕ, List, [], ◌∷◌, ◌++◌, Option, Some, None, codes, decimal, length}
 use Rattle.sut_text.specs.Text.{whole_text, printed_text}
 use Rattle.sut_measures.specs.declared.accounts.Account.{Account}
 use Rattle.sut_tables.specs.ProblemFacts.{ProblemFacts}
@@ -41,3 +41,18 @@ rows_words p = codes "rows" ∷ decimal (length p.rows) ∷ []
 -- the three printed lines of a made year
 abbrev pub generated_text : ProblemFacts → TableFacts → List ℕ
 generated_text p t = printed_text (rows_words p ∷ (codes "balanced" ∷ []) ∷ cost_words p t ∷ [])
+
+-- ---- the line of a rebalance in a run of edits
+
+-- the line of the edit that asked for it; none where it is the last one
+abbrev pub place_words : Option ℕ → List (List ℕ)
+place_words (Some line) = codes "line" ∷ decimal line ∷ []
+place_words None = codes "end" ∷ []
+
+-- what came of it, with the cost of the table
+abbrev pub outcome_words : ProblemFacts → Answer → List (List ℕ)
+outcome_words p (answer.Balanced t c) = codes "balanced" ∷ decimal (cost p t) ∷ []
+outcome_words p (answer.Infeasible s) = codes "infeasible" ∷ []
+
+abbrev pub rebalance_text : Option ℕ → ProblemFacts → Answer → List ℕ
+rebalance_text place p a = printed_text ((place_words place ++ outcome_words p a) ∷ [])

@@ -5,12 +5,14 @@ ghost use Rattle.sut_tables.specs.Costs.{IsAdmissible};
 ghost use Rattle.sut_tables.specs.Problems.{IsTableOf};
 ghost use Rattle.sut_tables.specs.Values.{int_sum_by};
 ghost use Rattle.sut_readback.specs.BalancedText.{balanced_text};
+ghost use Rattle.sut_source.specs.SourceText.{source_text};
 ghost use Rattle.sut_write.specs.Numbers.{net_margin, supply_at_purchasers};
 ghost use Rattle.sut_write.specs.Places.{products};
 ghost use Rattle.sut_write.specs.Use.{line_sum};
 ghost use Rattle.sut_write.specs.declared.use_table.UseLine.TheVariants as line;
 
 use sut_classes::{MarginId, ProductId};
+use sut_settings::Settings;
 use sut_tables::{Problem, Table};
 
 /// In the supply table each margin column adds up to 0: the products that provide a margin offset
@@ -39,4 +41,13 @@ pub fn balanced_short(p: &Problem, t: &Table)
     p.kept();
     p.classes().kept();
     t.cells();
+}
+
+/// The text of the rows of a problem has at most 67,108,864 bytes.
+pub fn source_short(s: &Settings, p: &Problem)
+    ensures { length (source_text s.now p.now) ≤ 67108864 }
+{
+    s.kept();
+    p.kept();
+    p.classes().kept();
 }

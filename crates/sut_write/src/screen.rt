@@ -1,11 +1,12 @@
-//! The lines that `balance` and `generate` print.
+//! The lines that a run prints.
 
-ghost use Rattle.std.specs.Prelude.{◌≡◌, ◌<◌, ◌*◌, ◌^◌, ◌++◌, ◌∷◌, [], IfOk, OnOk, decimal};
+ghost use Rattle.std.specs.Prelude.{◌≡◌, ◌<◌, ◌*◌, ◌^◌, ◌++◌, ◌∷◌, [], IfOk, OnOk, codes, decimal};
 ghost use Rattle.sut_text.specs.Text.{printed_text, words_text};
 ghost use Rattle.sut_text.specs.Fields.{field_bytes};
 ghost use Rattle.sut_tables.specs.Costs.{IsAdmissible};
+ghost use Rattle.sut_tables.specs.Costs as costs;
 ghost use Rattle.sut_write.specs.Answers.{HasAdmissibleTable};
-ghost use Rattle.sut_write.specs.Screen.{balanced_words, cost_words, gdp_words, generated_text, infeasible_words, screen_text};
+ghost use Rattle.sut_write.specs.Screen.{balanced_words, cost_words, gdp_words, generated_text, infeasible_words, place_words, rebalance_text, screen_text};
 
 use crate::report::row_count;
 use crate::words::put_word_line;
@@ -24,13 +25,21 @@ fn cost_field(cost: u128) -> Field<'static>
     Field::Whole(cost as i128)
 }
 
+// The cost of a table.
+fn cost_of(p: &Problem, t: &Table) -> Field<'static>
+    requires { IsAdmissible p.now t.now }
+    ensures { field_bytes result ≡ decimal (costs.cost p.now t.now) }
+{
+    p.kept();
+    cost_field(cost(p, t))
+}
+
 // Appends the line of the cost.
 fn put_cost(out: &mut Vec<u8>, p: &Problem, t: &Table) -> Result<(), NoMemory>
     requires { IsAdmissible p.now t.now }
     ensures { OnOk result (out.new.items ≡ out.old.items ++ (words_text (cost_words p.now t.now) ++ 10 ∷ [])) }
 {
-    p.kept();
-    put_word_line(out, b"cost", &[cost_field(cost(p, t))])?;
+    put_word_line(out, b"cost", &[cost_of(p, t)])?;
     Ok(())
 }
 
@@ -94,4 +103,48 @@ pub fn generated_text(alloc: Global, p: &Problem, t: &Table) -> Result<Vec<u8>, 
     put_bytes(&mut out, b"balanced\n")?;
     put_cost(&mut out, p, t)?;
     Ok(out)
+}
+
+fn put_balanced(
+    out: &mut Vec<u8>,
+    place: Option<u64>,
+    p: &Problem,
+    t: &Table,
+) -> Result<(), NoMemory>
+    requires { IsAdmissible p.now t.now }
+    ensures { OnOk result (out.new.items ≡ out.old.items ++ printed_text ((place_words place ++ codes "balanced" ∷ decimal (costs.cost p.now t.now) ∷ []) ∷ [])) }
+{
+    let balanced = Field::Text(b"balanced");
+    match place {
+        Some(line) => put_word_line(out, b"line", &[Field::Count(line), balanced, cost_of(p, t)]),
+        None => put_word_line(out, b"end", &[balanced, cost_of(p, t)]),
+    }
+}
+
+fn put_infeasible(out: &mut Vec<u8>, place: Option<u64>) -> Result<(), NoMemory>
+    ensures { OnOk result (out.new.items ≡ out.old.items ++ printed_text ((place_words place ++ codes "infeasible" ∷ []) ∷ [])) }
+{
+    let infeasible = Field::Text(b"infeasible");
+    match place {
+        Some(line) => put_word_line(out, b"line", &[Field::Count(line), infeasible]),
+        None => put_word_line(out, b"end", &[infeasible]),
+    }
+}
+
+/// Appends the line that `edit` prints of a rebalance: `line K`, K being the line of the edit, or `end`, and then `balanced C`
+/// with the cost of the table, or `infeasible`. A table in the answer is admissible. After want of memory a part of it may
+/// stand in `out`.
+pub fn put_rebalance(
+    out: &mut Vec<u8>,
+    place: Option<u64>,
+    p: &Problem,
+    a: &Answer,
+) -> Result<(), NoMemory>
+    requires { HasAdmissibleTable p.now a.now }
+    ensures { OnOk result (out.new.items ≡ out.old.items ++ rebalance_text place p.now a.now) }
+{
+    match a {
+        Answer::Balanced(t, _) => put_balanced(out, place, p, t),
+        Answer::Infeasible(_) => put_infeasible(out, place),
+    }
 }

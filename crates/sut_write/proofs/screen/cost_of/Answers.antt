@@ -1,6 +1,6 @@
 use Rattle.std.proofs.Common.{◌<◌, ◌*◌, ◌^◌, subst, sym}
 use Rattle.sut_tables.proofs.CostBound.{cost-below}
-use Rattle.sut_write.proofs.screen.put_cost.Goals as goal
+use Rattle.sut_write.proofs.screen.cost_of.Goals as goal
 
 pub cost_field-requires : goal.cost_field-requires
 cost_field-requires c =
