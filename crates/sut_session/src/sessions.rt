@@ -57,6 +57,14 @@ impl Session {
         }
     }
 
+    /// The rows as they are now and their answer, if one stands; the network is dropped.
+    pub fn into_parts(self) -> (Problem, Option<Answer>)
+        ensures problem { result.0 ≡ self.problem }
+        ensures answer { result.1 ≡ self.answer }
+    {
+        (self.problem, self.answer)
+    }
+
     /// The rows as they are now.
     pub fn problem(&self) -> &Problem
         ensures { result.now ≡ self.now.problem }
