@@ -58,11 +58,11 @@ fn one_word(alloc: Global) -> Result<Vec<String>, Fail> {
     Ok(words)
 }
 
-/// Balances before the program's two rules, the second at 1 percent.
-fn balance_before_two(alloc: Global, shelf: &mut SteadyShelf) -> Result<(), Fail> {
+/// Balances before the program's two rules, the second at so many percent.
+fn balance_before_two(alloc: Global, shelf: &mut SteadyShelf, percent: u32) -> Result<(), Fail> {
     let mut reviewers: Vec<Box<dyn Reviewer>> = Vec::new(alloc);
     reviewers.push(Box::new(alloc, AtBound::new())?)?;
-    reviewers.push(Box::new(alloc, FarFrom::new(1))?)?;
+    reviewers.push(Box::new(alloc, FarFrom::new(percent))?)?;
     balance(alloc, shelf, reviewers)
 }
 
@@ -89,7 +89,7 @@ fn two_reviewers(rt: HostRuntime) -> Result<(), Fail> {
     ];
     for (settings, rows, want) in cases {
         let mut shelf = shelf_with(rt.alloc(), settings, rows)?;
-        balance_before_two(rt.alloc(), &mut shelf)?;
+        balance_before_two(rt.alloc(), &mut shelf, 1)?;
         assert!(rt;
             shelf.file(FileName::ReviewCsv) == Some(want.as_bytes()),
             "{rows}"
@@ -132,26 +132,32 @@ fn rule_of_ones_own(rt: HostRuntime) -> Result<(), Fail> {
     Ok(())
 }
 
-/// Balances before the program's two rules, and then the second at 9 and at 6 percent.
-fn balance_before_four(alloc: Global, shelf: &mut SteadyShelf) -> Result<(), Fail> {
-    let mut reviewers: Vec<Box<dyn Reviewer>> = Vec::new(alloc);
-    reviewers.push(Box::new(alloc, AtBound::new())?)?;
-    reviewers.push(Box::new(alloc, FarFrom::new(10))?)?;
-    reviewers.push(Box::new(alloc, FarFrom::new(9))?)?;
-    reviewers.push(Box::new(alloc, FarFrom::new(6))?)?;
-    balance(alloc, shelf, reviewers)
-}
-
 // Worked by hand from the spread of each product's gap. No cell that may move comes to a bound, and none moves by more than
 // 10 percent. Three move by 10: the change in stocks of AGR (10 by 1), the use of TRD by households (20 by 2) and the
 // transport margin of AGR in industry C (10 by 1). Four more move by 6 2/3: the trade margins of AGR to households and of
 // MAN in F (30 by 2), the transport margin of FOD to households and the use of SRV by B (15 by 1).
 #[test]
 fn whole_economy(rt: HostRuntime) -> Result<(), Fail> {
-    let mut shelf = steady(rt.alloc(), &FILES)?;
-    balance_before_four(rt.alloc(), &mut shelf)?;
-    let want =
-        "label,seen,tally,standing\nat_bound,1,0,yes\nfar_from,1,0,yes\nfar_from,1,3,yes\nfar_from,1,7,yes\n";
-    assert!(rt; shelf.file(FileName::ReviewCsv) == Some(want.as_bytes()));
+    for (percent, want) in [
+        (
+            10,
+            "label,seen,tally,standing\nat_bound,1,0,yes\nfar_from,1,0,yes\n",
+        ),
+        (
+            9,
+            "label,seen,tally,standing\nat_bound,1,0,yes\nfar_from,1,3,yes\n",
+        ),
+        (
+            6,
+            "label,seen,tally,standing\nat_bound,1,0,yes\nfar_from,1,7,yes\n",
+        ),
+    ] {
+        let mut shelf = steady(rt.alloc(), &FILES)?;
+        balance_before_two(rt.alloc(), &mut shelf, percent)?;
+        assert!(rt;
+            shelf.file(FileName::ReviewCsv) == Some(want.as_bytes()),
+            "{percent}"
+        );
+    }
     Ok(())
 }
