@@ -3,11 +3,10 @@
 ghost use Rattle.std.specs.Prelude.{◌≡◌, ◌<◌};
 
 use flow_residual::Steps;
+use no_memory::NoMemory;
 use std::alloc::Global;
 use std::marker::Brand;
-use std::process::Abort;
 use std::sync::ledger::{Blank, Ledger};
-use std::test::Fail;
 use sut_cert::Answer;
 use sut_classes::{Classes, Column, FinalId, IndustryId, ProductId, read_classes};
 use sut_edits::Edit;
@@ -22,35 +21,18 @@ const MAKE: Measure = Measure::Cell(Cell::Make(ProductId(0), IndustryId(0)));
 
 const BASIC: Measure = Measure::Cell(Cell::Basic(ProductId(0), Column::Final(FinalId(0))));
 
-fn problem_with(
-    alloc: Global,
-    settings: &Settings,
-    classes: Classes,
-    source: &[u8],
-) -> Option<Problem> {
-    read_source(alloc, settings, classes, source).ok()
+#[derive(Clone, Copy, Debug)]
+enum Year {
+    /// Two final uses.
+    FinalUses,
+    /// Two industries that may make what is used.
+    Industries,
+    /// Drawn from a seed.
+    Made,
 }
 
-/// The problem of a classes file and a source in scheme `flat`, without grades.
-fn problem_of(alloc: Global, classes: &[u8], source: &[u8]) -> Result<Problem, Fail> {
-    let settings = read_settings(alloc, b"scheme = \"flat\"\n")
-        .ok()
-        .ok_or("settings")?;
-    match read_classes(alloc, classes) {
-        Ok(classes) => Ok(problem_with(alloc, &settings, classes, source).ok_or("a source")?),
-        Err(_) => Err("classes")?,
-    }
-}
-
-fn session_of(alloc: Global, classes: &[u8], source: &[u8]) -> Result<Session, Fail> {
-    match problem_of(alloc, classes, source) {
-        Ok(problem) => Ok(Session::open(alloc, problem)?),
-        Err(fail) => Err(fail),
-    }
-}
-
-/// The value of each row's measure in the session's table, in measure order.
-fn values_in(alloc: Global, session: &Session) -> Result<Vec<i128>, Fail> {
+/// The value of each row's measure in the session's table, in measure order; none without a table.
+fn values_in(alloc: Global, session: &Session) -> Result<Vec<i128>, NoMemory> {
     let mut values = Vec::new(alloc);
     if let Some(Answer::Balanced(table, _)) = session.answer() {
         for row in session.problem().rows() {
@@ -74,12 +56,15 @@ fn raised(session: &Session, m: Measure, by: i64) -> Option<Row> {
     )
 }
 
-fn raise(rt: &impl Abort, session: &mut Session, m: Measure, by: i64) -> Result<(), Fail> {
-    let row = raised(session, m, by).ok_or("a row with a target")?;
-    assert!(rt; fits(session.problem().classes(), row.measure()));
-    assert!(rt; session.apply(&Edit::Set(row)).is_ok());
-    assert!(rt; session.answer().is_none());
-    Ok(())
+/// Whether the target of a measure moved up, and no answer stands then.
+fn raise(session: &mut Session, m: Measure, by: i64) -> bool {
+    let Some(row) = raised(session, m, by) else {
+        return false;
+    };
+    if !fits(session.problem().classes(), row.measure()) {
+        return false;
+    }
+    session.apply(&Edit::Set(row)).is_ok() && session.answer().is_none()
 }
 
 /// The values after a rebalance.
@@ -87,23 +72,27 @@ fn rebalanced<L: Ledger>(
     alloc: Global,
     session: &mut Session,
     steps: &mut Steps<L>,
-) -> Result<Vec<i128>, Fail> {
-    session.rebalance(alloc, steps)?;
-    values_in(alloc, session)
+) -> Result<Vec<i128>, NoMemory> {
+    match session.rebalance(alloc, steps) {
+        Ok(()) => values_in(alloc, session),
+        Err(_) => Err(NoMemory),
+    }
 }
 
-/// The values before and after the target of a measure moved up.
+/// The values before and after the target of a measure moved up; none where it could not move.
 fn around<L: Ledger>(
-    rt: &impl Abort,
     alloc: Global,
     session: &mut Session,
-    moved: (Measure, i64),
+    m: Measure,
+    by: i64,
     steps: &mut Steps<L>,
-) -> Result<(Vec<i128>, Vec<i128>), Fail> {
+) -> Result<Option<(Vec<i128>, Vec<i128>)>, NoMemory> {
     let before = rebalanced(alloc, session, steps)?;
-    raise(rt, session, moved.0, moved.1)?;
+    if !raise(session, m, by) {
+        return Ok(None);
+    }
     let after = rebalanced(alloc, session, steps)?;
-    Ok((before, after))
+    Ok(Some((before, after)))
 }
 
 /// Whether each value is within 1 of what it was, and that at a place within 2.
@@ -120,102 +109,154 @@ fn is_near(before: &[i128], after: &[i128], place: usize) -> bool {
     true
 }
 
-/// Two final uses: the make moves up by 28, and draws the import and both uses along.
-fn try_final_uses<L: Ledger>(
-    rt: &impl Abort,
-    alloc: Global,
-    steps: &mut Steps<L>,
-) -> Result<(), Fail> {
-    let classes =
-        b"axis,code,kind\nproduct,X,plain\nindustry,A,\nfinal,F,\nfinal,E,\nitem,V,\n".as_slice();
-    let source =
-        b"kind,a,b,c,target,grade,lower,upper\nmake,X,A,,80,,,\nimport,X,,,30,,,\nbasic,X,F,,70,,,\nbasic,X,E,,48,,,\nadded,V,A,,,,0,1000\n".as_slice();
-    let mut session = session_of(alloc, classes, source)?;
-    let (before, after) = around(rt, alloc, &mut session, (MAKE, 28), steps)?;
-    assert!(rt; before.as_slice() == [82, 32, 68, 46, 82].as_slice());
-    assert!(rt; after.as_slice() == [103, 25, 75, 53, 103].as_slice());
-    Ok(())
-}
-
-/// Two industries that may make what is used: many tables are least, and the next one is near.
-fn try_industries<L: Ledger>(
-    rt: &impl Abort,
-    alloc: Global,
-    steps: &mut Steps<L>,
-) -> Result<(), Fail> {
-    let classes =
-        b"axis,code,kind\nproduct,X,plain\nindustry,A,\nindustry,B,\nfinal,F,\nitem,V,\n".as_slice();
-    let source =
-        b"kind,a,b,c,target,grade,lower,upper\nmake,X,A,,,,0,1000\nmake,X,B,,,,0,1000\nbasic,X,F,,100,,,\nadded,V,A,,,,0,1000\nadded,V,B,,,,0,1000\n".as_slice();
-    let mut session = session_of(alloc, classes, source)?;
-    let (before, after) = around(rt, alloc, &mut session, (BASIC, 1), steps)?;
-    assert!(rt; is_near(&before, &after, 2));
-    assert!(rt; before[2] == 100);
-    assert!(rt; after[2] == 101);
-    Ok(())
-}
-
-/// Moves the first make of a made year up by 1, so many times.
-fn try_moves<L: Ledger>(
-    rt: &impl Abort,
-    alloc: Global,
-    session: &mut Session,
-    count: u32,
-    steps: &mut Steps<L>,
-) -> Result<(), Fail> {
-    for _moved in 0..count {
-        let (before, after) = around(rt, alloc, session, (MAKE, 1), steps)?;
-        assert!(rt; is_near(&before, &after, 0));
+/// The make moves up by 28, and draws the import and both uses along.
+fn final_uses_move<L: Ledger>(alloc: Global, session: &mut Session, steps: &mut Steps<L>) -> bool {
+    match around(alloc, session, MAKE, 28, steps) {
+        Ok(Some((before, after))) => {
+            before.as_slice() == [82, 32, 68, 46, 82].as_slice()
+                && after.as_slice() == [103, 25, 75, 53, 103].as_slice()
+        }
+        _ => false,
     }
-    Ok(())
 }
 
-fn try_year<L: Ledger>(rt: &impl Abort, alloc: Global, steps: &mut Steps<L>) -> Result<(), Fail> {
-    let files = generate(alloc, 1, 40, 20).ok().ok_or("a made year")?;
-    let mut session = session_of(alloc, &files.classes, &files.source)?;
-    try_moves(rt, alloc, &mut session, 15, steps)
+/// Many tables are least, and the next one is near. The use is the third row.
+fn industries_move<L: Ledger>(alloc: Global, session: &mut Session, steps: &mut Steps<L>) -> bool {
+    match around(alloc, session, BASIC, 1, steps) {
+        Ok(Some((before, after))) => {
+            is_near(&before, &after, 2) && before.get(2) == Some(&100) && after.get(2) == Some(&101)
+        }
+        _ => false,
+    }
 }
 
-#[derive(Clone, Copy)]
-enum Year {
-    FinalUses,
-    Industries,
-    MadeYear,
+/// The first make, which is the first row, moves up by 1.
+fn make_moves<L: Ledger>(alloc: Global, session: &mut Session, steps: &mut Steps<L>) -> bool {
+    match around(alloc, session, MAKE, 1, steps) {
+        Ok(Some((before, after))) => is_near(&before, &after, 0),
+        _ => false,
+    }
 }
 
-fn try_with<L: Ledger>(
-    rt: &impl Abort,
-    alloc: Global,
-    which: Year,
-    blank: Blank,
-) -> Result<(), Fail>
+fn make_moves_often<L: Ledger>(alloc: Global, session: &mut Session, steps: &mut Steps<L>) -> bool {
+    for _moved in 0..15 {
+        if !make_moves(alloc, session, steps) {
+            return false;
+        }
+    }
+    true
+}
+
+fn moves_of<L: Ledger>(alloc: Global, year: Year, session: &mut Session, blank: Blank) -> bool
     requires name { blank.name ≡ L.name }
     requires parts { blank.parts ≡ L.parts }
     requires some { 0 < L.parts }
 {
     let mut steps = Steps::<L>::new(blank);
-    match which {
-        Year::FinalUses => try_final_uses(rt, alloc, &mut steps),
-        Year::Industries => try_industries(rt, alloc, &mut steps),
-        Year::MadeYear => try_year(rt, alloc, &mut steps),
+    match year {
+        Year::FinalUses => final_uses_move(alloc, session, &mut steps),
+        Year::Industries => industries_move(alloc, session, &mut steps),
+        Year::Made => make_moves_often(alloc, session, &mut steps),
     }
 }
 
-fn trial(rt: &impl Abort, alloc: Global, which: Year) -> Result<(), Fail> {
-    try_with::<Brand>(rt, alloc, which, Blank::new(1))
+fn moves(alloc: Global, year: Year, session: &mut Session) -> bool {
+    moves_of::<Brand>(alloc, year, session, Blank::new(1))
+}
+
+fn problem_moves(alloc: Global, year: Year, problem: Problem) -> bool {
+    match Session::open(alloc, problem) {
+        Ok(mut session) => moves(alloc, year, &mut session),
+        Err(_) => false,
+    }
+}
+
+fn source_moves(
+    alloc: Global,
+    year: Year,
+    settings: &Settings,
+    classes: Classes,
+    source: &[u8],
+) -> bool {
+    match read_source(alloc, settings, classes, source) {
+        Ok(problem) => problem_moves(alloc, year, problem),
+        Err(_) => false,
+    }
+}
+
+fn year_moves(
+    alloc: Global,
+    year: Year,
+    settings: &Settings,
+    classes: &[u8],
+    source: &[u8],
+) -> bool {
+    match read_classes(alloc, classes) {
+        Ok(classes) => source_moves(alloc, year, settings, classes, source),
+        Err(_) => false,
+    }
+}
+
+/// A trial of a year in scheme `flat`, without grades.
+fn flat_moves(alloc: Global, year: Year, classes: &[u8], source: &[u8]) -> bool {
+    match read_settings(alloc, b"scheme = \"flat\"\n") {
+        Ok(settings) => year_moves(alloc, year, &settings, classes, source),
+        Err(_) => false,
+    }
+}
+
+const FINALS: &[u8] = b"axis,code,kind
+product,X,plain
+industry,A,
+final,F,
+final,E,
+item,V,
+";
+
+const FINALS_SOURCE: &[u8] = b"kind,a,b,c,target,grade,lower,upper
+make,X,A,,80,,,
+import,X,,,30,,,
+basic,X,F,,70,,,
+basic,X,E,,48,,,
+added,V,A,,,,0,1000
+";
+
+const INDUSTRIES: &[u8] = b"axis,code,kind
+product,X,plain
+industry,A,
+industry,B,
+final,F,
+item,V,
+";
+
+const INDUSTRIES_SOURCE: &[u8] = b"kind,a,b,c,target,grade,lower,upper
+make,X,A,,,,0,1000
+make,X,B,,,,0,1000
+basic,X,F,,100,,,
+added,V,A,,,,0,1000
+added,V,B,,,,0,1000
+";
+
+/// The made year of seed 1 with 40 products and 20 industries.
+fn made_moves(alloc: Global) -> bool {
+    match generate(alloc, 1, 40, 20) {
+        Ok(files) => flat_moves(alloc, Year::Made, &files.classes, &files.source),
+        Err(_) => false,
+    }
+}
+
+fn passes(alloc: Global, year: Year) -> bool {
+    match year {
+        Year::FinalUses => flat_moves(alloc, year, FINALS, FINALS_SOURCE),
+        Year::Industries => flat_moves(alloc, year, INDUSTRIES, INDUSTRIES_SOURCE),
+        Year::Made => made_moves(alloc),
+    }
 }
 
 #[test]
-fn a_moved_make(rt: HostRuntime) -> Result<(), Fail> {
-    trial(&rt, rt.alloc(), Year::FinalUses)
-}
-
-#[test]
-fn a_moved_use_of_two_industries(rt: HostRuntime) -> Result<(), Fail> {
-    trial(&rt, rt.alloc(), Year::Industries)
-}
-
-#[test]
-fn fifteen_moves_in_a_made_year(rt: HostRuntime) -> Result<(), Fail> {
-    trial(&rt, rt.alloc(), Year::MadeYear)
+fn values_after_moved_targets(rt: HostRuntime) {
+    for year in [Year::FinalUses, Year::Industries, Year::Made] {
+        let passed = passes(rt.alloc(), year);
+        assert!(rt; passed, "{year:?}");
+    }
 }
