@@ -2,7 +2,7 @@ use Rattle.std.proofs.Common.{rules, arith}
 use Rattle.std.proofs.lemmas.Int.{ints, to_z-of_z}
 use mir.Syntax.{w64}
 use mir.Val.{SFits}
-use Rattle.flow_start.proofs.asking.settled.Goals as goal
+use Rattle.flow_start.proofs.asking.searched.Goals as goal
 
 pub settle-requires-clause-high : goal.settle-requires-clause-high
 settle-requires-clause-high g c =
