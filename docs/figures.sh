@@ -1,0 +1,88 @@
+#!/usr/bin/env bash
+# Measures CPU seconds and peak memory of `sut balance` and `sutcheck` on made years and on contradictions of them, and prints
+# the tables of docs/PERFORMANCE.md. Where `perf` is there, it tells too which crates the time of a balance goes to.
+# usage: docs/figures.sh FOLDER [SEED,PRODUCTS,INDUSTRIES ..]
+# FOLDER holds the two programs, or is the top of a repository that has built them.
+set -eu
+folder=$(cd "${1:-$(dirname "$0")/..}" && pwd)
+shift || true
+[ $# -gt 0 ] || set -- 1,40,20 1,128,64 1,256,128 1,512,200
+
+program() {
+    for file in "$folder/$1" "$folder/$2" "$folder/crates/$2/out/$2"; do
+        [ ! -f "$file" ] || { printf '%s\n' "$file"; return; }
+    done
+    echo "no $1 in $folder" >&2
+    exit 1
+}
+sut=$(program sut sut_cli)
+sutcheck=$(program sutcheck sut_checker)
+
+# Runs a command three times, each with at most 120 CPU seconds; prints the least CPU seconds, the peak megabytes, the status
+# and the first line that was printed.
+measured() {
+    for _ in 1 2 3; do
+        (ulimit -t 120 && /usr/bin/time -o "$work/used" -f '%U %S %M %x' "$@" >"$work/said" 2>&1) || true
+        tail -n 1 "$work/used" | awk '{ printf "%.2f | %.0f | %d\n", $1 + $2, $3 / 1024, $4; exit $1 > 60 }' || break
+    done | sort -n | head -n 1 | tr -d '\n'
+    printf ' | %s' "$(head -n 1 "$work/said")"
+}
+
+# A year whose imports are held at most at their targets, and whose total of imports is one above these.
+imports_too_high() {
+    awk -F, -v OFS=, '
+        $1 == "import" { $8 = $5; sum += $5 }
+        { print }
+        END { print "import_total", "", "", "", sum + 1, "", sum + 1, sum + 1 }'
+}
+
+# A year whose GDP is one above what the bounds of all final uses and imports allow.
+gdp_too_high() {
+    awk -F, -v OFS=, '
+        $1 == "import" { $7 = $5; sum -= $5 }
+        $1 == "margin" || $1 == "tax" || $1 == "basic" && $3 ~ /^F/ { $8 = $5; sum += $5 }
+        { print }
+        END { print "gdp", "", "", "", sum + 1, "", sum + 1, sum + 1 }'
+}
+
+# The shares of the CPU time of a balance, by the crates that its functions stand in.
+shares() {
+    perf record -q -o "$work/perf" "$sut" balance >"$work/said" 2>&1 || return 0
+    perf report -i "$work/perf" --stdio --no-children --sort symbol 2>"$work/said" |
+        awk '/%/ { split($3, part, "::"); share[part[1]] += $1 } END { for (crate in share) if (share[crate] >= 1) printf "%.0f %s\n", share[crate], crate }' |
+        sort -rn | awk '{ printf "%s%s %s%%", (NR > 1 ? ", " : ""), $2, $1 } END { print "" }'
+}
+
+work=$(mktemp -d)
+trap 'rm -rf "$work"' EXIT
+printf '| year | rows | command | CPU s | peak MB | status | first line |\n|---|---|---|---|---|---|---|\n'
+for year; do
+    made=$work/$year
+    mkdir -p "$made/imports" "$made/gdp"
+    cd "$made"
+    # shellcheck disable=SC2086
+    "$sut" generate ${year//,/ } >generated.txt
+    for file in settings.toml classes.csv source.csv; do
+        mv "made_$file" "$file"
+    done
+    cp settings.toml classes.csv imports
+    cp settings.toml classes.csv gdp
+    imports_too_high <source.csv >imports/source.csv
+    gdp_too_high <source.csv >gdp/source.csv
+    rows=$(($(wc -l <source.csv) - 1))
+    for name in "" imports gdp; do
+        cd "$made/$name"
+        for command in "$sut balance" "$sutcheck"; do
+            # shellcheck disable=SC2086
+            printf '| %s%s | %s | %s | %s |\n' "${year//,/ }" "${name:+, $name too high}" "$((rows + (${#name} > 0)))" \
+                "$([ "$command" = "$sutcheck" ] && echo sutcheck || echo sut balance)" "$(measured $command)"
+        done
+    done
+done
+if command -v perf >/dev/null; then
+    printf '\n| year | where the time of a balance goes |\n|---|---|\n'
+    for year; do
+        cd "$work/$year"
+        printf '| %s | %s |\n' "${year//,/ }" "$(shares)"
+    done
+fi
