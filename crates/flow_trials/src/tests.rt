@@ -121,18 +121,22 @@ fn costs_of(alloc: Global, links: &[Link]) -> Result<Vec<LinkCost>, Fail> {
     Ok(costs)
 }
 
+fn squared(distance: u64) -> u128
+    requires { distance < 4_000_000_000_000 }
+    ensures { result < 16 * 10 ^ 24 }
+{
+    u128::from(distance) * u128::from(distance)
+}
+
 // What a distance from the target costs at weight 1.
 fn loss(penalty: Penalty, distance: u64) -> u128
     requires { distance < 4_000_000_000_000 }
     ensures { result < 16 * 10 ^ 24 }
 {
     match penalty {
-        Penalty::Square => u128::from(distance) * u128::from(distance),
+        Penalty::Square => squared(distance),
         Penalty::Absolute => u128::from(distance),
-        Penalty::Band(width) => {
-            let beyond = distance.saturating_sub(width);
-            u128::from(beyond) * u128::from(beyond)
-        }
+        Penalty::Band(width) => squared(distance.saturating_sub(width)),
     }
 }
 
