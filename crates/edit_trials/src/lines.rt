@@ -35,7 +35,7 @@ struct Numbers {
     upper: i64,
 }
 
-fn numbers(row: &Row) -> Numbers {
+fn numbers_of(row: &Row) -> Numbers {
     Numbers {
         target: row.target(),
         penalty: row.penalty(),
@@ -46,10 +46,10 @@ fn numbers(row: &Row) -> Numbers {
     }
 }
 
-fn said(edit: &Edit) -> Said {
+fn said_by(edit: &Edit) -> Said {
     match edit {
-        Edit::Set(row) => Said::Set(row.measure(), numbers(row)),
-        Edit::Add(row) => Said::Add(row.measure(), numbers(row)),
+        Edit::Set(row) => Said::Set(row.measure(), numbers_of(row)),
+        Edit::Add(row) => Said::Add(row.measure(), numbers_of(row)),
         Edit::Drop(measure) => Said::Drop(*measure),
         Edit::Balance => Said::Balance,
         Edit::Dismiss(label) => Said::Dismiss(label.bytes().len()),
@@ -91,7 +91,7 @@ const WANT: [Said; 6] = [
 // Whether these are the wanted edits, the first of them at line 2.
 fn are_wanted(edits: &[EditLine]) -> bool {
     let lines = edits.iter().map(|line| line.line).eq(2..8);
-    let words = edits.iter().map(|line| said(&line.edit)).eq(WANT);
+    let words = edits.iter().map(|line| said_by(&line.edit)).eq(WANT);
     lines && words
 }
 
