@@ -8,8 +8,6 @@ pub mod laws;
 mod print;
 mod read;
 pub mod sums;
-#[cfg(test)]
-mod tests;
 
 pub use answers::Answer;
 pub use certificates::{AccountSet, Certificate, Potentials};

@@ -6,8 +6,6 @@ pub mod laws;
 mod lines;
 pub mod read;
 mod reading;
-#[cfg(test)]
-mod tests;
 
 pub use faults::{BalancedCause, BalancedFault};
 pub use lines::target_of;

@@ -4,8 +4,6 @@
 mod cuts;
 mod potentials;
 mod slopes;
-#[cfg(test)]
-mod tests;
 pub mod verdicts;
 
 pub use cuts::verify_cut;

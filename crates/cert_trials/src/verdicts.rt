@@ -1,36 +1,26 @@
-use crate::{Reason, Verdict, verify, verify_cut};
+//! Verdicts on potentials and on sets of accounts.
+
+use crate::years::{ADDED, BASIC, BOUGHT, MAKE, RowCase, problem_of};
 use std::alloc::Global;
 use std::process::Abort;
 use std::test::Fail;
 use sut_cert::{AccountSet, Potentials};
-use sut_classes::{Column, FinalId, IndustryId, ItemId, ProductId, read_classes};
-use sut_measures::{Account, Cell, Measure, Total, fits};
-use sut_tables::{Penalty, Problem, Row, Table};
-
-const CLASSES: &[u8] = b"axis,code,kind\nproduct,X,plain\nindustry,A,\nfinal,F,\nitem,V,\n";
-
-const BOUGHT: Column = Column::Final(FinalId(0));
-
-const MAKE: Measure = Measure::Cell(Cell::Make(ProductId(0), IndustryId(0)));
-
-const BASIC: Measure = Measure::Cell(Cell::Basic(ProductId(0), BOUGHT));
-
-const ADDED: Measure = Measure::Cell(Cell::Added(ItemId(0), IndustryId(0)));
+use sut_classes::{FinalId, IndustryId, ItemId, ProductId};
+use sut_measures::{Account, Measure, Total};
+use sut_tables::{Problem, Table};
+use sut_verify::{Reason, Verdict, verify, verify_cut};
 
 const PURCHASE: Measure = Measure::Total(Total::Purchase(ProductId(0), BOUGHT));
 
 const SUPPLY: Measure = Measure::Total(Total::Supply(ProductId(0)));
 
 /// Rows aimed at 0: a make up to its upper bound, a purchase from its lower bound, and an added item.
-fn small(rt: &impl Abort, alloc: Global, upper: i64, lower: i64) -> Result<Problem, Fail> {
-    let classes = read_classes(alloc, CLASSES).ok().ok_or("classes")?;
-    let mut problem = Problem::new(alloc, classes);
-    for (measure, lower, upper) in [(MAKE, 0, upper), (BASIC, lower, 1000), (ADDED, 0, 1000)] {
-        let row = Row::new(measure, Some(0), Penalty::Square, 0, 1, lower, upper).ok_or("a row")?;
-        assert!(rt; fits(problem.classes(), row.measure()));
-        assert!(rt; problem.add(row).is_ok());
-    }
-    Ok(problem)
+const fn rows(upper: i64, lower: i64) -> [RowCase; 3] {
+    [
+        (MAKE, 0, 0, upper),
+        (BASIC, 0, lower, 1000),
+        (ADDED, 0, 0, 1000),
+    ]
 }
 
 /// Potentials of the product's supply and use, the other accounts with 0, and the verdict.
@@ -78,7 +68,7 @@ fn check_potentials(
 
 #[test]
 fn zeros_are_least(rt: HostRuntime) -> Result<(), Fail> {
-    let problem = small(&rt, rt.alloc(), 90, 0)?;
+    let problem = problem_of(&rt, rt.alloc(), &rows(90, 0))?;
     let up = Reason::Up {
         measure: MAKE,
         slope: 1,
@@ -132,7 +122,7 @@ fn check_cuts(
 
 #[test]
 fn more_enters_than_leaves(rt: HostRuntime) -> Result<(), Fail> {
-    let problem = small(&rt, rt.alloc(), 90, 95)?;
+    let problem = problem_of(&rt, rt.alloc(), &rows(90, 95))?;
     let no_table = Verdict::NoTable {
         entering: 95,
         leaving: 90,

@@ -1,31 +1,13 @@
-use crate::{AccountSet, CertCause, CertFault, Potentials, print_certificate, read_certificate};
+//! Certificates: texts with faults, texts that are printed again, pairs and sets.
+
+use crate::years::{AIMED, problem_of};
 use std::alloc::Global;
 use std::process::Abort;
 use std::test::Fail;
-use sut_classes::{Column, FinalId, IndustryId, ItemId, ProductId, read_classes};
-use sut_measures::{Account, Cell, Measure, fits};
-use sut_tables::{Penalty, Problem, Row};
-
-const CLASSES: &[u8] = b"axis,code,kind\nproduct,X,plain\nindustry,A,\nfinal,F,\nitem,V,\n";
-
-const CELLS: [Cell; 3] = [
-    Cell::Make(ProductId(0), IndustryId(0)),
-    Cell::Basic(ProductId(0), Column::Final(FinalId(0))),
-    Cell::Added(ItemId(0), IndustryId(0)),
-];
-
-/// A make, a purchase and an added item, each aimed at 100.
-fn small(rt: &impl Abort, alloc: Global) -> Result<Problem, Fail> {
-    let classes = read_classes(alloc, CLASSES).ok().ok_or("classes")?;
-    let mut problem = Problem::new(alloc, classes);
-    for cell in CELLS {
-        let measure = Measure::Cell(cell);
-        let row = Row::new(measure, Some(100), Penalty::Square, 0, 1, 0, 1000).ok_or("a row")?;
-        assert!(rt; fits(problem.classes(), row.measure()));
-        assert!(rt; problem.add(row).is_ok());
-    }
-    Ok(problem)
-}
+use sut_cert::{AccountSet, CertCause, CertFault, Potentials, print_certificate, read_certificate};
+use sut_classes::ProductId;
+use sut_measures::Account;
+use sut_tables::Problem;
 
 /// The fault of a text; or none, after a test that the text is what its certificate prints.
 fn fault_of(
@@ -65,7 +47,7 @@ fn check_faults(
 
 #[test]
 fn texts_with_faults(rt: HostRuntime) -> Result<(), Fail> {
-    let problem = small(&rt, rt.alloc())?;
+    let problem = problem_of(&rt, rt.alloc(), AIMED)?;
     check_faults(
         &rt,
         rt.alloc(),
@@ -105,7 +87,7 @@ fn check_printed(
 
 #[test]
 fn texts_printed_again(rt: HostRuntime) -> Result<(), Fail> {
-    let problem = small(&rt, rt.alloc())?;
+    let problem = problem_of(&rt, rt.alloc(), AIMED)?;
     check_printed(
         &rt,
         rt.alloc(),

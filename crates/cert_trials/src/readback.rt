@@ -1,31 +1,12 @@
-use crate::{BalancedCause, BalancedFault, read_balanced};
+//! Tables read back: whole, with another target, and short.
+
+use crate::years::{AIMED, problem_of};
 use std::alloc::Global;
 use std::process::Abort;
 use std::test::Fail;
-use sut_classes::{Column, FinalId, IndustryId, ItemId, ProductId, read_classes};
-use sut_measures::{Cell, Measure, Total, fits};
-use sut_tables::{Penalty, Problem, Row, value};
-
-const CLASSES: &[u8] = b"axis,code,kind\nproduct,X,plain\nindustry,A,\nfinal,F,\nitem,V,\n";
-
-const CELLS: [Cell; 3] = [
-    Cell::Make(ProductId(0), IndustryId(0)),
-    Cell::Basic(ProductId(0), Column::Final(FinalId(0))),
-    Cell::Added(ItemId(0), IndustryId(0)),
-];
-
-/// A make, a purchase and an added item, each aimed at 100.
-fn small(rt: &impl Abort, alloc: Global) -> Result<Problem, Fail> {
-    let classes = read_classes(alloc, CLASSES).ok().ok_or("classes")?;
-    let mut problem = Problem::new(alloc, classes);
-    for cell in CELLS {
-        let measure = Measure::Cell(cell);
-        let row = Row::new(measure, Some(100), Penalty::Square, 0, 1, 0, 1000).ok_or("a row")?;
-        assert!(rt; fits(problem.classes(), row.measure()));
-        assert!(rt; problem.add(row).is_ok());
-    }
-    Ok(problem)
-}
+use sut_measures::{Measure, Total};
+use sut_readback::{BalancedCause, BalancedFault, read_balanced};
+use sut_tables::{Problem, value};
 
 const WHOLE: &str =
     "kind,a,b,c,target,value\nmake,X,A,,100,90\nbasic,X,F,,100,80\nadded,V,A,,100,70\npurchase,X,F,,,80\nsupply,X,,,,90\noutput,A,,,,90\nvalue_added,A,,,,70\nitem_total,V,,,,70\nfinal_total,F,,,,80\ngdp,,,,,80\n";
@@ -57,7 +38,7 @@ fn fault(line: u64, cause: BalancedCause) -> Result<i128, BalancedFault> {
 
 #[test]
 fn tables_read_back(rt: HostRuntime) -> Result<(), Fail> {
-    let problem = small(&rt, rt.alloc())?;
+    let problem = problem_of(&rt, rt.alloc(), AIMED)?;
     check_texts(
         &rt,
         rt.alloc(),
