@@ -1,4 +1,4 @@
-// Small networks against a search over all their circulations.
+//! Small networks against a search over all their circulations.
 
 ghost use Rattle.std.specs.Prelude.{◌≡◌, ◌<◌, ◌*◌, ◌^◌, pos, All, IsTrue, length};
 ghost use Rattle.flow_cost.specs.Cost.{IsWithin};

@@ -165,7 +165,8 @@ arc-place names m a e = found-at measure_key same_measure measure-same measure_k
 
 -- ---- a flow within wide bounds stays
 
-set-same : {X : Type 0} (xs : List X) (a : ℕ) (x : X) → slice_get xs a ≡ Some x → slice_set xs a x ≡ xs
+-- what stands at a place put there again
+pub set-same : {X : Type 0} (xs : List X) (a : ℕ) (x : X) → slice_get xs a ≡ Some x → slice_set xs a x ≡ xs
 set-same [] a x e = absurd cc
 set-same (y ∷ ys) zero x e = ap (λ z. z ∷ ys) (some y x e)
   where

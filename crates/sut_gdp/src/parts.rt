@@ -1,4 +1,4 @@
-// The sums that GDP is made of.
+//! The sums that GDP is made of.
 
 ghost use Rattle.std.specs.Prelude.{◌≡◌, ◌^◌, ◌+ℤ◌, ◌-ℤ◌, []};
 ghost use Rattle.sut_tables.specs.CellSums.{IsUpTo};

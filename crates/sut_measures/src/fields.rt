@@ -40,42 +40,49 @@ pub fn column_in(classes: &Classes, at: Field, text: &[u8]) -> Result<Column, Na
     }
 }
 
+/// The product of a field's code, or `UnknownCode` of the field where no product has it.
 pub fn product_in(classes: &Classes, at: Field, text: &[u8]) -> Result<ProductId, NameFault>
     ensures { result ≡ names.code_in classes.now Axis.Product at text.now (λ n. Ok (record { 0 = n })) }
 {
     Ok(ProductId(place_in(classes, Axis::Product, at, text)?))
 }
 
+/// The industry of a field's code, or `UnknownCode` of the field where no industry has it.
 pub fn industry_in(classes: &Classes, at: Field, text: &[u8]) -> Result<IndustryId, NameFault>
     ensures { result ≡ names.code_in classes.now Axis.Industry at text.now (λ n. Ok (record { 0 = n })) }
 {
     Ok(IndustryId(place_in(classes, Axis::Industry, at, text)?))
 }
 
+/// The final use of a field's code, or `UnknownCode` of the field where no final use has it.
 pub fn final_use_in(classes: &Classes, at: Field, text: &[u8]) -> Result<FinalId, NameFault>
     ensures { result ≡ names.code_in classes.now Axis.Final at text.now (λ n. Ok (record { 0 = n })) }
 {
     Ok(FinalId(place_in(classes, Axis::Final, at, text)?))
 }
 
+/// The item of value added of a field's code, or `UnknownCode` of the field where no item of value added has it.
 pub fn item_in(classes: &Classes, at: Field, text: &[u8]) -> Result<ItemId, NameFault>
     ensures { result ≡ names.code_in classes.now Axis.Item at text.now (λ n. Ok (record { 0 = n })) }
 {
     Ok(ItemId(place_in(classes, Axis::Item, at, text)?))
 }
 
+/// The kind of margins of a field's code, or `UnknownCode` of the field where no kind of margins has it.
 pub fn margin_in(classes: &Classes, at: Field, text: &[u8]) -> Result<MarginId, NameFault>
     ensures { result ≡ names.code_in classes.now Axis.Margin at text.now (λ n. Ok (record { 0 = n })) }
 {
     Ok(MarginId(place_in(classes, Axis::Margin, at, text)?))
 }
 
+/// The kind of taxes of a field's code, or `UnknownCode` of the field where no kind of taxes has it.
 pub fn tax_in(classes: &Classes, at: Field, text: &[u8]) -> Result<TaxId, NameFault>
     ensures { result ≡ names.code_in classes.now Axis.Tax at text.now (λ n. Ok (record { 0 = n })) }
 {
     Ok(TaxId(place_in(classes, Axis::Tax, at, text)?))
 }
 
+/// The product group of a field's code, or `UnknownCode` of the field where no product group has it.
 pub fn product_group_in(
     classes: &Classes,
     at: Field,
@@ -86,6 +93,7 @@ pub fn product_group_in(
     Ok(ProductGroupId(place_in(classes, Axis::ProductGroup, at, text)?))
 }
 
+/// The industry group of a field's code, or `UnknownCode` of the field where no industry group has it.
 pub fn industry_group_in(
     classes: &Classes,
     at: Field,

@@ -3,6 +3,7 @@
 ghost use Rattle.std.specs.Prelude.{◌≡◌};
 ghost use Rattle.sut_measures.specs.Kinds as words;
 
+/// The kinds of cells.
 #[derive(Debug, Clone, Copy, PartialEq, Eq)]
 pub enum CellKind {
     Make,
@@ -14,6 +15,7 @@ pub enum CellKind {
     Added,
 }
 
+/// The kinds of totals but those of groups.
 #[derive(Debug, Clone, Copy, PartialEq, Eq)]
 pub enum TotalKind {
     Purchase,
@@ -42,6 +44,7 @@ pub enum GroupKind {
     Item,
 }
 
+/// The kinds of accounts but those of groups.
 #[derive(Debug, Clone, Copy, PartialEq, Eq)]
 pub enum AccountKind {
     Supplied,

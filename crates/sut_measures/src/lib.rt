@@ -1,4 +1,4 @@
-// Cells, totals and accounts of supply and use tables: their order, their names, and the account that each measure leaves and enters.
+//! Cells, totals and accounts of supply and use tables: their order, their names, and the account that each measure leaves and enters.
 #![tactic(auto)]
 
 pub mod accounts;

@@ -1,4 +1,4 @@
-// Real files of a folder, and standard output. They tell no contents.
+//! Real files of a folder, and standard output. They tell no contents.
 ghost use Rattle.std.specs.Prelude.{◌≡◌, None};
 
 use crate::{FILE_LIMIT, FileName, Shelf, ShelfError, Sink, SinkError};
@@ -17,6 +17,7 @@ pub struct FolderShelf<'a, R: Files + AllocGlobal> {
 }
 
 impl<'a, R: Files + AllocGlobal> FolderShelf<'a, R> {
+    /// Over the files of a folder of the machine.
     pub fn new(rt: &'a R, folder: String) -> FolderShelf<'a, R>
         ensures faults { result.faults ≡ 0 }
         ensures last { result.last_failed ≡ None }
@@ -101,6 +102,7 @@ pub struct ConsoleSink<'a, R: Print> {
 }
 
 impl<'a, R: Print> ConsoleSink<'a, R> {
+    /// Over the standard output of the machine.
     pub fn new(rt: &'a R) -> ConsoleSink<'a, R>
         ensures { result.faults ≡ 0 }
     {

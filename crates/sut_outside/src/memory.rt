@@ -1,4 +1,4 @@
-// Shelves in memory.
+//! Shelves in memory.
 ghost use Rattle.std.specs.Prelude.{◌≡◌, ◌≢◌, ◌↔◌, ◌+◌, ◌-◌, ◌^◌, ◌≤◌, ◌<◌, ◌++◌, [], min, take, length, Contains, Some, None, IfSome, IfOk, OnOk, OnErr, IsErrOf, IsTrue, MatchOption, vec_len, vec_capacity};
 ghost use Rattle.sut_outside.specs.declared.shelf.ShelfError.TheVariants.{Failed};
 ghost use Rattle.sut_outside.specs.Files.{SameFiles, SameOtherFiles, Reads, Writes, Told};
@@ -163,6 +163,7 @@ pub struct SteadyShelf {
 }
 
 impl SteadyShelf {
+    /// Without files.
     pub fn new(alloc: Global) -> SteadyShelf
         ensures empty { ⟦<SteadyShelf as Shelf>⟧.files result ≡ Some (λ _. None) }
     {

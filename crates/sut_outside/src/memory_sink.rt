@@ -1,4 +1,4 @@
-// A sink in memory.
+//! A sink in memory.
 ghost use Rattle.std.specs.Prelude.{◌≡◌, ◌≢◌, ◌⊎◌, ◌+◌, ◌-◌, ◌^◌, ◌≤◌, ◌<◌, ◌++◌, [], min, take, length, Some, IfOk, OnOk, IsErrOf, IsTrue, ◌↔◌, vec_len, vec_capacity};
 ghost use Rattle.sut_outside.specs.declared.shelf.SinkError.TheVariants.{Failed};
 ghost use Rattle.sut_outside.specs.Files.{Told};

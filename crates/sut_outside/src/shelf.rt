@@ -1,4 +1,4 @@
-// A shelf of files, and a sink for printed lines.
+//! A shelf of files, and a sink for printed lines.
 ghost use Rattle.std.specs.Prelude.{◌≡◌, ◌≢◌, ℕ, List, Option, IfSome};
 ghost use Rattle.sut_outside.specs.declared.names.FileName.{FileName};
 ghost use Rattle.sut_outside.specs.declared.shelf.SinkError.TheVariants.{Failed as SinkFailed};

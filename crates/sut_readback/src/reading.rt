@@ -34,7 +34,7 @@ impl Model for Reading {
 }
 
 impl Reading {
-    // No line is read.
+    /// No line is read.
     pub fn new(alloc: Global, p: &Problem) -> Result<Reading, NoMemory>
         ensures { IfOk result (λ r. r ≡ nothing_read p.now) }
     {
@@ -48,14 +48,14 @@ impl Reading {
         })
     }
 
-    // The next measure.
+    /// The next measure, or none once all are read.
     pub fn next(&self) -> Option<Measure>
         ensures { result ≡ first_of self.now.coming }
     {
         self.measures.get(self.lines).copied()
     }
 
-    // The sum of the next measure, a total, over the cells.
+    /// The sum of the next measure, a total, over the cells that are read.
     pub fn sum(&self, u: Total) -> i128
         requires { first_of self.now.coming ≡ Some (Measure.Total u) }
         ensures { result ≡ total_value self.now.table u }
@@ -63,7 +63,7 @@ impl Reading {
         value(&self.table, Measure::Total(u))
     }
 
-    // The next measure, a total, is read.
+    /// The next measure, a total, is read.
     pub fn pass(&mut self, u: Total)
         requires { first_of self.old.coming ≡ Some (Measure.Total u) }
         ensures { self.new ≡ record self.old { coming = drop 1 self.old.coming } }
@@ -72,7 +72,7 @@ impl Reading {
         self.lines += 1;
     }
 
-    // The next measure, a cell, is read as a number.
+    /// The next measure, a cell, is read as a number of whole currency units, of -10^12 to 10^12.
     pub fn put(&mut self, c: Cell, x: i64)
         requires next { first_of self.old.coming ≡ Some (Measure.Cell c) }
         requires range { InRange x }
@@ -84,7 +84,7 @@ impl Reading {
         self.lines += 1;
     }
 
-    // The table, once all measures are read.
+    /// The table, once all measures are read.
     pub fn into_table(self) -> Table
         requires { self.coming ≡ [] }
         ensures { result ≡ self.table }

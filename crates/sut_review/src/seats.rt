@@ -1,4 +1,4 @@
-// The seats of a panel.
+//! The seats of a panel.
 
 ghost use Rattle.std.specs.Prelude.{◌≡◌, ◌<◌, ◌+◌, ◌^◌, ◌++◌, ℕ, IfOk, OnOk, is_some, map, vec_len};
 ghost use Rattle.std.specs.List.{flat_map};

@@ -1,5 +1,5 @@
 -- Networks whose circuit had one arc changed.
-use Rattle.std.proofs.Common.{◌≡◌, ℕ, zero, suc, List, [], ◌∷◌, length, Some, ℤ, pos, refl, sym, ◌∙◌, ap, subst, arith}
+use Rattle.std.proofs.Common.{◌≡◌, ℕ, length, Some, ℤ, pos, refl, sym, ◌∙◌, ap, subst, arith}
 use Rattle.std.specs.Prelude.{slice_get, slice_set}
 use Rattle.std.proofs.lemmas.Int.{ints, clamps}
 use Rattle.std.proofs.lemmas.Option.{get_or_from_slice_get, slice_get_within}
@@ -17,17 +17,11 @@ use Rattle.sut_circuit.specs.Circuit.{IsArcOf, high_of, low_of}
 use Rattle.sut_circuit.specs.IsCircuit.{IsCircuit}
 use Rattle.sut_circuit.specs.RowChanges.{ChangesArc}
 use Rattle.sut_circuit.specs.declared.circuits.Circuit.{Circuit}
-use Rattle.sut_circuit.proofs.Places.{some-same}
+use Rattle.sut_circuit.proofs.Changed.{set-same}
 use Rattle.sut_circuit.proofs.Zips.{zip-at}
 use Rattle.sut_session.specs.SessionView.{numbers_of}
 use Rattle.sut_session.specs.declared.networks.Network.{Network}
 use Rattle.sut_session.specs.SmallSets.{HasBounds}
-
--- what stands at a place put there again
-set-same : {X : Type 0} (xs : List X) (a : ℕ) (x : X) → slice_get xs a ≡ Some x → slice_set xs a x ≡ xs
-set-same [] a x e = absurd cc
-set-same (y ∷ ys) zero x e = ap (λ z. z ∷ ys) (some-same x y (sym e))
-set-same (y ∷ ys) (suc a) x e = ap (λ zs. y ∷ zs) (set-same ys a x e)
 
 -- one arc's bounds change, so the nodes stay, and the room fits
 pub room-stays : (old new : Circuit) (a : ℕ) (lo hi : ℤ) → ChangesArc old new a lo hi → length new.state.graph.nodes ≡ length old.state.graph.nodes

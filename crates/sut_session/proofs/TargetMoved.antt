@@ -1,17 +1,16 @@
 -- The numbers and potentials of a table, on the circuit of the problem in which one target moved: where the numbers settle,
 -- and the surplus that is left there.
 use Rattle.std.proofs.Common.{◌≡◌, ◌≢◌, ℕ, zero, suc, ◌+◌, ◌*◌, ◌<◌, ◌≤◌, ◌==◌, List, [], ◌∷◌, length, map, Option, Some, None, Bool, true, false, ℤ, pos, ◌+ℤ◌, ◌-ℤ◌, ◌≤ℤ◌, unsigned_abs, inl, inr, rules, refl, sym, ◌∙◌, ap, subst, arith, length-set}
-use Rattle.std.specs.Prelude.{All, MatchOption, find, if◌then◌else◌, get_or, slice_get, slice_set, slice_index_or, unwrap_or}
+use Rattle.std.specs.Prelude.{All, MatchOption, if◌then◌else◌, get_or, slice_get, slice_set}
 use Rattle.std.specs.List.{filter_map, flat_map}
 use Rattle.std.proofs.lemmas.List.{length-map}
 use Rattle.std.proofs.lemmas.Bool.{cases_eq}
 use Rattle.std.proofs.lemmas.Bool.Decides.{nat_tests}
 use Rattle.std.proofs.lemmas.Int.{ints}
 use Rattle.std.proofs.lemmas.List.Elements.{All-nil, All-cons, All-head, All-tail}
-use Rattle.std.proofs.lemmas.Option.{slice_get-get_or, slice_get_within, unwrap_or-slice_get}
+use Rattle.std.proofs.lemmas.Option.{slice_get-get_or, slice_get_within}
 use Rattle.sut_measures.specs.Keys.{account_key, measure_key}
 use Rattle.sut_measures.specs.Ends.{left, entered}
-use Rattle.sut_measures.specs.declared.accounts.Account.{Account}
 use Rattle.sut_measures.specs.declared.measures.Measure.{Measure}
 use Rattle.sut_tables.specs.Changes.{is_of, row_replaced}
 use Rattle.sut_tables.specs.Costs.{IsAdmissible, IsWithin, loss, term}
@@ -25,8 +24,8 @@ use Rattle.sut_tables.specs.TableFacts.{TableFacts}
 use Rattle.sut_tables.specs.Values.{value_of}
 use Rattle.sut_tables.proofs.Conservation.{live-sorted}
 use Rattle.sut_tables.proofs.Kept.{put, put-measure}
-use Rattle.sut_tables.proofs.Ordered.{Sorted, same-flip, same-refl}
-use Rattle.sut_cert.specs.Certificates.{MeasureIsShown, RowIsShown, potential_or_zero}
+use Rattle.sut_tables.proofs.Ordered.{same-flip, same-refl}
+use Rattle.sut_cert.specs.Certificates.{MeasureIsShown, RowIsShown}
 use Rattle.sut_cert.specs.Certificates.{rise as account_rise}
 use Rattle.sut_cert.proofs.Convex.{term-convex}
 use Rattle.flow_cost.specs.Integers.{abs_at_most, abs_high, abs_low}
@@ -42,10 +41,10 @@ use Rattle.sut_circuit.specs.Circuit.{by_account, cost_of, flows_of, high_of, lo
 use Rattle.sut_circuit.specs.IsCircuit.{IsCircuit}
 use Rattle.sut_circuit.specs.RowCosts.{ArcCost, cost_at}
 use Rattle.sut_circuit.specs.declared.circuits.Circuit.{Circuit}
-use Rattle.sut_circuit.proofs.Circulations.{accounts-sorted, flows-circulate, values-in_bounds}
+use Rattle.sut_circuit.proofs.Circulations.{accounts-sorted, flows-circulate, found-has, values-in_bounds}
 use Rattle.sut_circuit.proofs.LiveStays.{live-replaced}
 use Rattle.sut_circuit.proofs.Places.{All-at, places-same, some-same, zip-length}
-use Rattle.sut_circuit.proofs.PotentialsBack.{by_account-at}
+use Rattle.sut_circuit.proofs.PotentialsBack.{rise-is}
 use Rattle.sut_circuit.proofs.RowsFound.{found-replaced, instead, row_key}
 use Rattle.sut_circuit.proofs.Zips.{zip-at}
 use Rattle.sut_session.specs.SessionFacts.{KeptNumbers}
@@ -55,15 +54,6 @@ use Rattle.sut_session.proofs.Steps.{live-place, row-live}
 use Rattle.sut_session.proofs.OneMoved.{surplus-moved}
 
 -- ---- a row found, and a list of rows replaced
-
--- what every element has, one that is found has, and it passes the test
-found-has : {X : Type 0} (P : X → Type 0) (q : X → Bool) (xs : List X) (x : X) → All P xs → find q xs ≡ Some x → P x × (q x ≡ true)
-found-has P q [] x a e = cc
-found-has P q (y ∷ ys) x a e = by (q y) refl e (found-has P q ys x (All-tail P y ys a))
-  where
-    by : (b : Bool) → q y ≡ b → (if b then Some y else find q ys) ≡ Some x → (find q ys ≡ Some x → P x × (q x ≡ true)) → P x × (q x ≡ true)
-    by true t e rest = subst (λ z. P z × (q z ≡ true)) (some-same y x e) (All-head P y ys a, t)
-    by false t e rest = rest e
 
 cells-replaced : (r : RowFacts) (rows : List RowFacts) → filter_map (λ (s : RowFacts). cell_of s.measure) (map (put r) rows) ≡ filter_map (λ (s : RowFacts). cell_of s.measure) rows
 cells-replaced r [] = refl
@@ -110,15 +100,6 @@ slopes-moved : (r : RowFacts) (from to : ℤ) → r.target ≡ Some from → (z 
 slopes-moved r from to e z =
     let i : (z +ℤ pos 1) -ℤ (to -ℤ from) ≡ (z -ℤ (to -ℤ from)) +ℤ pos 1 = omega (arith, ints) in
     rw (term-moved r from to e (z +ℤ pos 1), term-moved r from to e z, i) refl
-
--- ---- potentials by account
-
-or_zero-at : (nodes : List Account) (ys : List ℤ) → Sorted account_key nodes → (k : ℕ) (a : Account) → slice_get nodes k ≡ Some a → slice_index_or ys k (pos 0) ≡ potential_or_zero (by_account nodes ys) a
-or_zero-at nodes ys s k a e = sym (ap (λ o. unwrap_or o (pos 0)) (by_account-at nodes ys s k a e) ∙ unwrap_or-slice_get ys k (pos 0))
-
-rise-is : (p : ProblemFacts) (nodes : List Account) (ys : List ℤ) → Sorted account_key nodes → (m : Measure) (arc : Arc) → IsArcOf p nodes m arc → rise ys arc ≡ account_rise (groups p) (by_account nodes ys) m
-rise-is p nodes ys s m arc h =
-    rw (or_zero-at nodes ys s arc.head (entered (groups p) m) h.head, or_zero-at nodes ys s arc.tail (left (groups p) m) h.tail) refl
 
 -- ---- one number of a list
 

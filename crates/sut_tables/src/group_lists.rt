@@ -1,4 +1,4 @@
-// The groups of all products and all industries, as lists by place.
+//! The groups of all products and all industries, as lists by place.
 
 ghost use Rattle.std.specs.Prelude.{◌≡◌, IfOk, option_map, slice_get};
 ghost use Rattle.sut_classes.specs.Groups.{group_in, groups_of};

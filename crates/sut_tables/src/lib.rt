@@ -1,4 +1,4 @@
-// Rows, problems and tables: what a source says, and numbers for its cells.
+//! Rows, problems and tables: what a source says, and numbers for its cells.
 #![tactic(auto)]
 
 pub mod breaks;

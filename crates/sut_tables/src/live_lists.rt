@@ -1,5 +1,5 @@
-// The live measures and accounts of a problem: a measure is live where it has a row, or where it is a total and one of its
-// cells has a row; an account is live where a live measure leaves or enters it.
+//! The live measures and accounts of a problem: a measure is live where it has a row, or where it is a total and one of its
+//! cells has a row; an account is live where a live measure leaves or enters it.
 
 ghost use Rattle.std.specs.Prelude.{◌≡◌, IfOk};
 ghost use Rattle.sut_measures.specs.Keys.{account_key, measure_key};

@@ -1,4 +1,4 @@
-// How often the rows of a problem make each measure live, and how many ends these measures have at each account.
+//! How often the rows of a problem make each measure live, and how many ends these measures have at each account.
 
 ghost use Rattle.std.specs.Prelude.{◌≡◌, ◌≤◌, [], ◌∷◌, length, take, OnOk, OnErr};
 ghost use Rattle.sut_classes.specs.Groups.{groups_of};
@@ -19,6 +19,7 @@ pub(crate) struct LiveTallies {
 }
 
 impl LiveTallies {
+    /// Of no row.
     pub fn new(alloc: Global) -> LiveTallies
         ensures measures { result.measures ≡ [] }
         ensures accounts { result.accounts ≡ [] }
@@ -70,7 +71,7 @@ impl LiveTallies {
         }
     }
 
-    // Counts what a row of a measure makes live, and its ends, once more. The counts are as before after want of memory.
+    /// Counts what a row of a measure makes live, and its ends, once more. The counts are as before after want of memory.
     pub fn raise(&mut self, classes: &Classes, m: Measure) -> Result<(), NoMemory>
         requires { HasRoom 18 self.old }
         ensures ok { OnOk result (CountsMore (groups_of classes.now) self.old self.new (made_live (groups_of classes.now) m)) }
@@ -88,7 +89,7 @@ impl LiveTallies {
         Ok(())
     }
 
-    // Counts what a row of a measure makes live, and its ends, once less.
+    /// Counts what a row of a measure makes live, and its ends, once less.
     pub fn lower(&mut self, classes: &Classes, m: Measure)
         ensures { CountsLess (groups_of classes.now) self.old self.new (made_live (groups_of classes.now) m) }
     {

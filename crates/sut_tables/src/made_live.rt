@@ -1,4 +1,4 @@
-// The measures that a row makes live: its own, and for a cell the totals in whose sum it stands.
+//! The measures that a row makes live: its own, and for a cell the totals in whose sum it stands.
 
 ghost use Rattle.std.specs.Prelude.{◌≡◌, slice_get};
 ghost use Rattle.sut_classes.specs.Groups.{groups_of};
@@ -47,6 +47,7 @@ fn industry_group_of(classes: &Classes, c: Cell) -> Option<IndustryGroupId>
 }
 
 impl MadeLive {
+    /// What a row of a measure makes live: the measure and, for a cell, the totals whose sum has it.
     pub fn of(classes: &Classes, measure: Measure) -> MadeLive
         ensures { result ≡ made_live (groups_of classes.now) measure }
     {
@@ -64,7 +65,7 @@ impl MadeLive {
         }
     }
 
-    // The k-th of them, counted from 0.
+    /// The k-th of them, counted from 0.
     pub fn get(&self, k: usize) -> Option<Measure>
         ensures { result ≡ slice_get self.now k }
     {

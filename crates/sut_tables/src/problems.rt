@@ -1,4 +1,4 @@
-// A problem: classes, and rows in measure order.
+//! A problem: classes, and rows in measure order.
 
 ghost use Rattle.std.specs.Prelude.{◌≡◌, ◌↔◌, [], None, Err, false, IsTrue, IsSome, OnOk, OnErr};
 ghost use Rattle.std.specs.Iterator.{YieldsFirstRef, item_count};
@@ -19,14 +19,19 @@ use std::marker::Model;
 use sut_classes::Classes;
 use sut_measures::{Account, Measure};
 
+/// Why a row is not put in.
 #[derive(Debug, Clone, Copy, PartialEq, Eq)]
 pub enum AddFault {
+    /// The measure has a row.
     There,
+    /// There are as many rows of cells, or of totals, as a problem can have.
     Full,
+    /// Memory ran out. Nothing changed.
     NoMemory,
 }
 
-// The rows stand under their measures, whose order is that of the map.
+/// Classes and rows, each measure with at most one row, which fits the classes: at most 131,072 rows of cells and 16,384 of
+/// totals. Contracts see the rows in measure order.
 #[derive(Drop)]
 pub struct Problem {
     classes: Classes,
@@ -92,6 +97,7 @@ impl Problem {
         }
     }
 
+    /// The classes whose codes the rows name.
     pub fn classes(&self) -> &Classes
         ensures { result.now ≡ self.now.classes }
     {

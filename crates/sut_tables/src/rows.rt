@@ -1,4 +1,4 @@
-// A row of a source: a measure with a target or none, and bounds.
+//! A row of a source: a measure with a target or none, and bounds.
 
 ghost use Rattle.std.specs.Prelude.{◌≡◌, ◌↔◌, ◌≤◌, ◌*◌, pos, ◌≤ℤ◌, ◌<◌, neg_ℤ, IsTrue, IfSome, IfNone};
 ghost use Rattle.sut_tables.specs.Rows.{InRange, IsAim, IsPenalty, IsRow};
@@ -155,6 +155,7 @@ impl Row {
         }
     }
 
+    /// The cell or the total that the row tells of.
     pub fn measure(&self) -> Measure
         ensures { result ≡ self.now.measure }
     {
@@ -168,36 +169,42 @@ impl Row {
         let _ = &self.measure;
     }
 
+    /// The estimate in whole currency units, of -10^12 to 10^12, if there is one.
     pub fn target(&self) -> Option<i64>
         ensures { result ≡ self.now.target }
     {
         self.target
     }
 
+    /// How a distance from the target is penalized.
     pub fn penalty(&self) -> Penalty
         ensures { result ≡ self.now.penalty }
     {
         self.penalty
     }
 
+    /// The place of the grade in the settings, in byte order from 1; 0 is the empty grade, or no target.
     pub fn grade(&self) -> u8
         ensures { result ≡ self.now.grade }
     {
         self.grade
     }
 
+    /// The weight of the target, 1 to 10,000 by its reliability (Stone, Champernowne and Meade 1942); 0 without a target.
     pub fn weight(&self) -> u32
         ensures { result ≡ self.now.weight }
     {
         self.weight
     }
 
+    /// The least admissible value, of -10^12 to 10^12.
     pub fn lower(&self) -> i64
         ensures { result ≡ self.now.lower }
     {
         self.lower
     }
 
+    /// The greatest admissible value, of -10^12 to 10^12.
     pub fn upper(&self) -> i64
         ensures { result ≡ self.now.upper }
     {

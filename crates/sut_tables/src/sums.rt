@@ -1,4 +1,4 @@
-// The sums that a table keeps beside its cells, and how they change with a cell's number.
+//! The sums that a table keeps beside its cells, and how they change with a cell's number.
 
 ghost use Rattle.std.specs.Prelude.{◌≡◌, ℤ, pos, ◌+ℤ◌, ◌*ℤ◌, ◌^◌, ◌≤◌, Some, IfOk, OnOk, if◌then◌else◌, option_map, slice_get, unwrap_or};
 ghost use Rattle.std.specs.List.{list_any};

@@ -1,4 +1,4 @@
-// A table: a number for each cell that has a row, and the groups that its totals are summed by.
+//! A table: a number for each cell that has a row, and the groups that its totals are summed by.
 
 ghost use Rattle.std.specs.Prelude.{◌≡◌, ◌<◌, ◌^◌, All, false, length, map, pos, IfOk, IfSome, IfNone};
 ghost use Rattle.std.specs.List.{HoldsAt};
@@ -20,24 +20,29 @@ use std::marker::Model;
 use sut_classes::{IndustryGroupId, IndustryId, MarginId, ProductGroupId, ProductId};
 use sut_measures::{Cell, Measure};
 
-// A cell with its number.
+/// A cell with its number of whole currency units.
 #[derive(Debug, Clone, Copy, PartialEq, Eq)]
 pub struct Held {
     pub cell: Cell,
     pub number: i64,
 }
 
-// An identity or a bound: of a product, an industry or a margin kind, or of a row's measure.
+/// An identity or a bound: of a product, an industry or a margin kind, or of a row's measure.
 #[derive(Debug, Clone, Copy, PartialEq, Eq)]
 pub enum Place {
+    /// Supply equals use of a product.
     Product(ProductId),
+    /// Output equals inputs of an industry.
     Industry(IndustryId),
+    /// Services equal margins of a kind.
     Margin(MarginId),
+    /// A value lies below its lower bound.
     Below(Measure),
+    /// A value lies above its upper bound.
     Above(Measure),
 }
 
-// A broken identity with its two sides, or a broken bound with the value and the bound.
+/// A broken identity with its two sides, or a broken bound with the value and the bound.
 #[derive(Debug, Clone, Copy, PartialEq, Eq)]
 pub struct Broken {
     pub place: Place,
@@ -45,7 +50,8 @@ pub struct Broken {
     pub right: i128,
 }
 
-// Beside its cells a table keeps their sums, so that a value is a look-up.
+/// A whole number for each cell that has a row; every other cell is 0. Beside its cells it keeps their sums, so that a value
+/// is a look-up.
 #[derive(Drop)]
 pub struct Table {
     cells: Vec<Held>,

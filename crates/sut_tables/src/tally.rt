@@ -1,4 +1,4 @@
-// Keys in order, each with how often it is counted.
+//! Keys in order, each with how often it is counted.
 
 ghost use Rattle.std.specs.Prelude.{◌≡◌, ◌+◌, ◌-◌, ◌<◌, ◌^◌, [], ◌∷◌, None, Some, IfOk, OnOk, OnErr};
 ghost use Rattle.std.specs.List.Sorted.{IsStrictlySortedBy};
@@ -29,6 +29,7 @@ impl<K: Ord> Model for Tally<K> {
 }
 
 impl<K: Ord + Copy> Tally<K> {
+    /// Without keys.
     pub fn new(alloc: Global) -> Tally<K>
         ensures { result ≡ [] }
     {
@@ -37,7 +38,7 @@ impl<K: Ord + Copy> Tally<K> {
         }
     }
 
-    // Counts a key once more. Nothing changes after want of memory.
+    /// Counts a key once more. Nothing changes after want of memory.
     pub fn raise(&mut self, k: K) -> Result<(), NoMemory>
         requires { count_of K.cmp self.old k + 1 < 2 ^ 32 }
         ensures ok { OnOk result ((q : K) → count_of K.cmp self.new q ≡ count_of K.cmp self.old q + times_in K.cmp (k ∷ []) q) }
@@ -51,7 +52,7 @@ impl<K: Ord + Copy> Tally<K> {
         Ok(())
     }
 
-    // Counts a key once less.
+    /// Counts a key once less.
     pub fn lower(&mut self, k: K)
         ensures { (q : K) → count_of K.cmp self.new q ≡ count_of K.cmp self.old q - times_in K.cmp (k ∷ []) q }
     {
@@ -83,7 +84,7 @@ impl<K: Ord + Copy> Tally<K> {
         }
     }
 
-    // The first key, or the first one above another.
+    /// The first key, or the first one above another.
     pub fn next_above(&self, after: Option<K>) -> Option<K>
         ensures { result ≡ key_above K.cmp after (keys_of self.now) }
     {
@@ -93,14 +94,14 @@ impl<K: Ord + Copy> Tally<K> {
         }
     }
 
-    // The keys, in order.
+    /// The keys, in order.
     pub fn list(&self, alloc: Global) -> Result<Vec<K>, NoMemory>
         ensures { IfOk result (λ v. v.items ≡ keys_of self.now) }
     {
         Ok(self.counts.keys().copied().collect(alloc)?)
     }
 
-    // Every tally is in order, and counts each key that it has. It does nothing.
+    /// Every tally is in order, and counts each key that it has. It does nothing.
     pub fn kept(&self)
         ensures ordered { IsStrictlySortedBy K.cmp (keys_of self.now) }
         ensures counted { AllCounted self.now }
