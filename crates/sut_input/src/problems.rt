@@ -1,7 +1,8 @@
 //! The problem of a year's files.
 
-ghost use Rattle.std.specs.Prelude.{◌≡◌, ◌≤◌, IfErr, IfOk, IfSome, None, Ok};
+ghost use Rattle.std.specs.Prelude.{◌≡◌, ◌≤◌, All, IfErr, IfOk, IfSome, None, Ok};
 ghost use Rattle.sut_outside.specs.Files.{Told, SameFiles};
+ghost use Rattle.sut_source.specs.SourceText.{HasGrade};
 ghost use Rattle.sut_input.specs.Reads.{FailsAmong, FailsBy, GivesOk, Refuses};
 ghost use Rattle.sut_input.specs.Inputs.{IsSource, class_fault, classes_in, problem_in, problem_names, settings_fault, settings_in, source_fault, source_in};
 
@@ -91,6 +92,7 @@ fn read_source_file<F: Shelf>(
 ) -> Result<Problem, InputFault>
     ensures kept { Told (F.files shelf.old) (F.files shelf.new) SameFiles }
     ensures ok { IfOk result (λ p. IfSome (F.files shelf.old) (λ files. GivesOk (source_in name settings.now classes) files p)) }
+    ensures graded { IfOk result (λ p. All (HasGrade settings.now) p.rows) }
     ensures err { IfErr result (λ fault. IfSome (F.files shelf.old) (λ files. Refuses (source_in name settings.now classes) files fault)) }
     ensures later { F.faults shelf.old ≤ F.faults shelf.new }
     ensures cause { IfErr result (FailsBy name (F.faults shelf.old) (F.faults shelf.new) (F.last_failed shelf.new)) }
@@ -115,6 +117,7 @@ pub fn read_problem<F: Shelf>(
     requires { IsSource source }
     ensures kept { Told (F.files shelf.old) (F.files shelf.new) SameFiles }
     ensures ok { IfOk result (λ input. IfSome (F.files shelf.old) (λ files. problem_in source None files ≡ Ok (input.settings, input.problem))) }
+    ensures graded { IfOk result (λ input. All (HasGrade input.settings) input.problem.rows) }
     ensures err { IfErr result (λ fault. IfSome (F.files shelf.old) (λ files. Refuses (problem_in source) files fault)) }
     ensures later { F.faults shelf.old ≤ F.faults shelf.new }
     ensures cause { IfErr result (FailsAmong (problem_names source) (F.faults shelf.old) (F.faults shelf.new) (F.last_failed shelf.new)) }

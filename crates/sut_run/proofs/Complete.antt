@@ -3,7 +3,8 @@ use Rattle.std.proofs.Common.{◌≡◌, ◌⊎◌, None, Result, Ok, Err, inl, 
 use Rattle.std.specs.Prelude.{IsOk}
 use Rattle.sut_outside.specs.Files.{Files}
 use Rattle.sut_status.specs.declared.statuses.Status.{Status}
-use Rattle.sut_status.specs.declared.statuses.Status.TheVariants.{Balanced, Generated, NoMemory, Usage, Infeasible, BadSettings, BadClasses, BadSource, ReadFault, WriteFault, Missing, SinkFault, TooLong}
+use Rattle.sut_status.specs.declared.statuses.Status.TheVariants.{Balanced, Generated, NoMemory, Usage, Infeasible, BadSettings, BadClasses, BadSource, BadEdits, ReadFault, WriteFault, Missing, SinkFault, TooLong}
+use Rattle.sut_review.specs.Seats.{SeatFacts}
 use Rattle.sut_run.specs.declared.commands.Command.{Command}
 use Rattle.sut_run.specs.Inputs.{input_of}
 use Rattle.sut_run.specs.Ends.{AnswersInput, IsDone}
@@ -16,19 +17,20 @@ not_given (Err s) refused e ok = cc
 
 -- where the input is given and no count rose, the run is done, or memory ran out
 pub complete_from :
-    (c : Command) (files : Files) (R K : Type 0) (status : Status) → AnswersInput c files status →
-    IfReadFault status (λ _. R) → IfWriteFault status (λ _. R) → (status ≡ SinkFault → K) → IsOk (input_of c None files) →
+    (seats : List SeatFacts) (c : Command) (files : Files) (R K : Type 0) (status : Status) → AnswersInput seats c files status →
+    IfReadFault status (λ _. R) → IfWriteFault status (λ _. R) → (status ≡ SinkFault → K) → IsOk (input_of seats c None files) →
     ¬ R → ¬ K → (status ≡ NoMemory) ⊎ IsDone status
-complete_from c files R K Balanced says read write sink given no_r no_k = inr tt
-complete_from c files R K Generated says read write sink given no_r no_k = inr tt
-complete_from c files R K Infeasible says read write sink given no_r no_k = inr tt
-complete_from c files R K NoMemory says read write sink given no_r no_k = inl refl
-complete_from c files R K Usage says read write sink given no_r no_k = absurd (not_given _ _ says given)
-complete_from c files R K (BadSettings f) says read write sink given no_r no_k = absurd (not_given _ _ says given)
-complete_from c files R K (BadClasses f) says read write sink given no_r no_k = absurd (not_given _ _ says given)
-complete_from c files R K (BadSource f) says read write sink given no_r no_k = absurd (not_given _ _ says given)
-complete_from c files R K (ReadFault n) says read write sink given no_r no_k = absurd (no_r read)
-complete_from c files R K (WriteFault n) says read write sink given no_r no_k = absurd (no_r write)
-complete_from c files R K (Missing n) says read write sink given no_r no_k = absurd (not_given _ _ says given)
-complete_from c files R K SinkFault says read write sink given no_r no_k = absurd (no_k (sink refl))
-complete_from c files R K (TooLong n) says read write sink given no_r no_k = absurd (not_given _ _ says given)
+complete_from seats c files R K Balanced says read write sink given no_r no_k = inr tt
+complete_from seats c files R K Generated says read write sink given no_r no_k = inr tt
+complete_from seats c files R K Infeasible says read write sink given no_r no_k = inr tt
+complete_from seats c files R K NoMemory says read write sink given no_r no_k = inl refl
+complete_from seats c files R K Usage says read write sink given no_r no_k = absurd (not_given _ _ says given)
+complete_from seats c files R K (BadSettings f) says read write sink given no_r no_k = absurd (not_given _ _ says given)
+complete_from seats c files R K (BadClasses f) says read write sink given no_r no_k = absurd (not_given _ _ says given)
+complete_from seats c files R K (BadSource f) says read write sink given no_r no_k = absurd (not_given _ _ says given)
+complete_from seats c files R K (BadEdits f) says read write sink given no_r no_k = absurd (not_given _ _ says given)
+complete_from seats c files R K (ReadFault n) says read write sink given no_r no_k = absurd (no_r read)
+complete_from seats c files R K (WriteFault n) says read write sink given no_r no_k = absurd (no_r write)
+complete_from seats c files R K (Missing n) says read write sink given no_r no_k = absurd (not_given _ _ says given)
+complete_from seats c files R K SinkFault says read write sink given no_r no_k = absurd (no_k (sink refl))
+complete_from seats c files R K (TooLong n) says read write sink given no_r no_k = absurd (not_given _ _ says given)

@@ -25,9 +25,10 @@ use Rattle.sut_status.specs.declared.statuses.Status.{Status}
 use Rattle.sut_status.specs.declared.statuses.Status.TheVariants.{Balanced, Generated, NoMemory, Usage, Infeasible, WriteFault, SinkFault}
 use Rattle.sut_run.specs.declared.commands.Command.{Command}
 use Rattle.sut_run.specs.declared.commands.Command.TheVariants.{Balance}
-use Rattle.sut_run.specs.Commands.{read_names, written_names}
+use Rattle.sut_run.specs.Commands.{answer_names, read_names, written_names}
 use Rattle.sut_run.specs.Inputs.{Given, for_balance, input_of, refused, to_balance}
-use Rattle.sut_run.specs.Deliveries.{Delivery, Gives, GivesAnswer, answer_files, review_files, seats_shown, status_of}
+use Rattle.sut_editing.specs.Shown.{seats_shown}
+use Rattle.sut_run.specs.Deliveries.{Delivery, Gives, GivesAnswer, answer_files, review_files, status_of}
 use Rattle.sut_run.specs.Prepared.{IsPrepared}
 use Rattle.sut_run.specs.Steps.{Delivered, FailsWriting, IfReadFault, IfWriteFault, SameSent, StopsDelivery, StopsWriting, WritesEnd}
 use Rattle.sut_run.specs.Ends.{AnswersInput, Delivers, DeliversRight, IsDone, Stands}
@@ -58,18 +59,18 @@ stops-no-sink names stopped s e = subst (StopsWriting names) e s
 
 -- ---- a refused input
 
-given-for : (failed : Option FileName) (files : Files) (r : Result (SettingsFacts × ProblemFacts) InputFault) → problem_in SourceCsv failed files ≡ r → input_of Balance failed files ≡ and_then (fault_as refused r) for_balance
-given-for failed files r e = ap (λ w. and_then (fault_as refused w) for_balance) e
+given-for : (seats : List SeatFacts) (failed : Option FileName) (files : Files) (r : Result (SettingsFacts × ProblemFacts) InputFault) → problem_in SourceCsv failed files ≡ r → input_of seats Balance failed files ≡ and_then (fault_as refused r) for_balance
+given-for seats failed files r e = ap (λ w. and_then (fault_as refused w) for_balance) e
 
-pub refused-answers : (held : Option Files) (f : InputFault) → IfSome held (λ files. Refuses (problem_in SourceCsv) files f) → IfSome held (λ files. AnswersInput Balance files (refused f))
-refused-answers None f h = tt
-refused-answers (Some files) fault.NoMemory h = tt
-refused-answers (Some files) (fault.ReadFault n) h = given-for (Some n) files (Err (fault.ReadFault n)) h
-refused-answers (Some files) (fault.Missing n) h = given-for None files (Err (fault.Missing n)) h
-refused-answers (Some files) (fault.TooLong n) h = given-for None files (Err (fault.TooLong n)) h
-refused-answers (Some files) (fault.BadSettings e) h = given-for None files (Err (fault.BadSettings e)) h
-refused-answers (Some files) (fault.BadClasses e) h = given-for None files (Err (fault.BadClasses e)) h
-refused-answers (Some files) (fault.BadSource e) h = given-for None files (Err (fault.BadSource e)) h
+pub refused-answers : (seats : List SeatFacts) (held : Option Files) (f : InputFault) → IfSome held (λ files. Refuses (problem_in SourceCsv) files f) → IfSome held (λ files. AnswersInput seats Balance files (refused f))
+refused-answers seats None f h = tt
+refused-answers seats (Some files) fault.NoMemory h = tt
+refused-answers seats (Some files) (fault.ReadFault n) h = given-for seats (Some n) files (Err (fault.ReadFault n)) h
+refused-answers seats (Some files) (fault.Missing n) h = given-for seats None files (Err (fault.Missing n)) h
+refused-answers seats (Some files) (fault.TooLong n) h = given-for seats None files (Err (fault.TooLong n)) h
+refused-answers seats (Some files) (fault.BadSettings e) h = given-for seats None files (Err (fault.BadSettings e)) h
+refused-answers seats (Some files) (fault.BadClasses e) h = given-for seats None files (Err (fault.BadClasses e)) h
+refused-answers seats (Some files) (fault.BadSource e) h = given-for seats None files (Err (fault.BadSource e)) h
 
 refused-stands : (seats : List SeatFacts) (f : InputFault) (sent : Option (List ℕ)) (old new : Files) → SameFiles old new → Stands seats Balance (refused f) sent sent old new
 refused-stands seats fault.NoMemory sent old new same = inl (same, sent-same sent)
@@ -123,14 +124,14 @@ is-refusal (fault.BadSource e) = tt
 -- ---- a delivery
 
 right : (seats : List SeatFacts) (c : Command) (input : Given) (ends : Status) (d : Delivery) → Gives seats input ends d → (status : Status) (before after : Option (List ℕ)) (old now new : Files) → SameFiles old now
-    → input_of c None old ≡ Ok input → Delivers d ends status now new before after → DeliversRight seats c status old new before after
+    → input_of seats c None old ≡ Ok input → Delivers d ends status now new before after → DeliversRight seats c status old new before after
 right seats c input ends d gives status before after old now new same read delivers =
     let P : Files → Type 0 = λ files. Delivers d ends status files new before after in
     rw read (ends, d, gives, subst P (same_files old now same) delivers)
 
 -- what was made for an input was delivered
 pub done-stands : (seats : List SeatFacts) (c : Command) (input : Given) (done : Status) (d : Delivery) → Gives seats input done d → IsDone done → (before after : Option (List ℕ)) (old now new : Files) → SameFiles old now
-    → input_of c None old ≡ Ok input → Delivered d.texts d.lines {T = Unit {0}} (Ok tt) now new before after → Stands seats c done before after old new
+    → input_of seats c None old ≡ Ok input → Delivered d.texts d.lines {T = Unit {0}} (Ok tt) now new before after → Stands seats c done before after old new
 done-stands seats c input Balanced d gives is before after old now new same read w = right seats c input Balanced d gives Balanced before after old now new same read (refl, w.0, w.1)
 done-stands seats c input Generated d gives is before after old now new same read w = right seats c input Generated d gives Generated before after old now new same read (refl, w.0, w.1)
 done-stands seats c input Infeasible d gives is before after old now new same read w = right seats c input Infeasible d gives Infeasible before after old now new same read (refl, w.0, w.1)
@@ -138,7 +139,7 @@ done-stands seats c input _ d gives is before after old now new same read w = ab
 
 -- the delivery of what was made for an input stopped
 pub failed-stands : (seats : List SeatFacts) (c : Command) (input : Given) (done : Status) (d : Delivery) → Gives seats input done d → (names : List FileName) (stopped : Status) → StopsDelivery names stopped
-    → (before after : Option (List ℕ)) (old now new : Files) → SameFiles old now → input_of c None old ≡ Ok input
+    → (before after : Option (List ℕ)) (old now new : Files) → SameFiles old now → input_of seats c None old ≡ Ok input
     → Delivered d.texts d.lines {T = Unit {0}} (Err stopped) now new before after → Stands seats c stopped before after old new
 failed-stands seats c input done d gives names NoMemory stops before after old now new same read w = inr (right seats c input done d gives NoMemory before after old now new same read w)
 failed-stands seats c input done d gives names (WriteFault n) stops before after old now new same read w = right seats c input done d gives (WriteFault n) before after old now new same read w
@@ -154,32 +155,32 @@ gives-answer seats p done texts lines x = record {
   delivers = λ i. record { texts = x.written i; lines = x.printed i };
 }
 
-pub given : (s : SettingsFacts) (p : ProblemFacts) (old : Files) → problem_in SourceCsv None old ≡ Ok (s, p) → input_of Balance None old ≡ Ok (to_balance s p)
-given s p old e = given-for None old (Ok (s, p)) e
+pub given : (seats : List SeatFacts) (s : SettingsFacts) (p : ProblemFacts) (old : Files) → problem_in SourceCsv None old ≡ Ok (s, p) → input_of seats Balance None old ≡ Ok (to_balance s p)
+given seats s p old e = given-for seats None old (Ok (s, p)) e
 
-pub given-told : (s : SettingsFacts) (p : ProblemFacts) (held : Option Files) → IfSome held (λ files. problem_in SourceCsv None files ≡ Ok (s, p)) → IfSome held (λ files. input_of Balance None files ≡ Ok (to_balance s p))
-given-told s p None h = tt
-given-told s p (Some files) h = given s p files h
+pub given-told : (seats : List SeatFacts) (s : SettingsFacts) (p : ProblemFacts) (held : Option Files) → IfSome held (λ files. problem_in SourceCsv None files ≡ Ok (s, p)) → IfSome held (λ files. input_of seats Balance None files ≡ Ok (to_balance s p))
+given-told seats s p None h = tt
+given-told seats s p (Some files) h = given seats s p files h
 
 -- what the answers say of the input
 
-ok-of : (c : Command) (input : Given) (old : Files) → input_of c None old ≡ Ok input → IsOk (input_of c None old)
-ok-of c input old e = rw e refl
+ok-of : (seats : List SeatFacts) (c : Command) (input : Given) (old : Files) → input_of seats c None old ≡ Ok input → IsOk (input_of seats c None old)
+ok-of seats c input old e = rw e refl
 
-pub done-answers : (c : Command) (input : Given) (done : Status) → IsDone done → (held : Option Files) → IfSome held (λ files. input_of c None files ≡ Ok input) → IfSome held (λ files. AnswersInput c files done)
-done-answers c input done is None h = tt
-done-answers c input Balanced is (Some files) h = ok-of c input files h
-done-answers c input Generated is (Some files) h = ok-of c input files h
-done-answers c input Infeasible is (Some files) h = ok-of c input files h
-done-answers c input _ is (Some files) h = absurd is
+pub done-answers : (seats : List SeatFacts) (c : Command) (input : Given) (done : Status) → IsDone done → (held : Option Files) → IfSome held (λ files. input_of seats c None files ≡ Ok input) → IfSome held (λ files. AnswersInput seats c files done)
+done-answers seats c input done is None h = tt
+done-answers seats c input Balanced is (Some files) h = ok-of seats c input files h
+done-answers seats c input Generated is (Some files) h = ok-of seats c input files h
+done-answers seats c input Infeasible is (Some files) h = ok-of seats c input files h
+done-answers seats c input _ is (Some files) h = absurd is
 
-pub failed-answers : (c : Command) (input : Given) (names : List FileName) (stopped : Status) → StopsDelivery names stopped → (held : Option Files) → IfSome held (λ files. input_of c None files ≡ Ok input)
-    → IfSome held (λ files. AnswersInput c files stopped)
-failed-answers c input names stopped stops None h = tt
-failed-answers c input names NoMemory stops (Some files) h = tt
-failed-answers c input names (WriteFault n) stops (Some files) h = ok-of c input files h
-failed-answers c input names SinkFault stops (Some files) h = ok-of c input files h
-failed-answers c input names _ stops (Some files) h = absurd stops
+pub failed-answers : (seats : List SeatFacts) (c : Command) (input : Given) (names : List FileName) (stopped : Status) → StopsDelivery names stopped → (held : Option Files) → IfSome held (λ files. input_of seats c None files ≡ Ok input)
+    → IfSome held (λ files. AnswersInput seats c files stopped)
+failed-answers seats c input names stopped stops None h = tt
+failed-answers seats c input names NoMemory stops (Some files) h = tt
+failed-answers seats c input names (WriteFault n) stops (Some files) h = ok-of seats c input files h
+failed-answers seats c input names SinkFault stops (Some files) h = ok-of seats c input files h
+failed-answers seats c input names _ stops (Some files) h = absurd stops
 
 -- ---- faults of devices
 
@@ -205,7 +206,7 @@ failed-reads names (WriteFault n) stops P = tt
 failed-reads names SinkFault stops P = tt
 failed-reads names _ stops P = absurd stops
 
-six-of-seven : (n : FileName) → Contains (BalancedCsv ∷ SupplyCsv ∷ UseCsv ∷ AccountsCsv ∷ CertificateCsv ∷ ReportJson ∷ []) n → Contains (written_names Balance) n
+six-of-seven : (n : FileName) → Contains (BalancedCsv ∷ SupplyCsv ∷ UseCsv ∷ AccountsCsv ∷ CertificateCsv ∷ ReportJson ∷ []) n → Contains answer_names n
 six-of-seven n (zero, below, is) = (0, omega arith, is)
 six-of-seven n (suc zero, below, is) = (1, omega arith, is)
 six-of-seven n (suc (suc zero), below, is) = (2, omega arith, is)
@@ -214,8 +215,8 @@ six-of-seven n (suc (suc (suc (suc zero))), below, is) = (4, omega arith, is)
 six-of-seven n (suc (suc (suc (suc (suc zero)))), below, is) = (5, omega arith, is)
 six-of-seven n (suc (suc (suc (suc (suc (suc k))))), below, is) = absurd (omega arith)
 
--- the names of what is written of an answer are names that may be written
-names-within : (seats : List SeatFacts) (p : ProblemFacts) (a : Answer) (n : FileName) → Contains (map (λ (f : FileName × List ℕ). f.0) (answer_files p a ++ review_files (seats_shown p a seats))) n → Contains (written_names Balance) n
+-- the names of what is written of an answer and of its review
+pub names-within : (seats : List SeatFacts) (p : ProblemFacts) (a : Answer) (n : FileName) → Contains (map (λ (f : FileName × List ℕ). f.0) (answer_files p a ++ review_files seats)) n → Contains answer_names n
 names-within [] p (answer.Balanced t ps) n h = six-of-seven n h
 names-within (seat ∷ seats) p (answer.Balanced t ps) n h = h
 names-within [] p (answer.Infeasible set) n (zero, below, is) = (4, omega arith, is)
@@ -229,7 +230,7 @@ names-within (seat ∷ seats) p (answer.Infeasible set) n (suc (suc (suc k)), be
 pub prepared-names : (seats : List SeatFacts) (p : ProblemFacts) (done : Status) (texts : List (FileName × List ℕ)) (lines : List ℕ) → IsPrepared seats p done texts lines → (names : List FileName)
     → names ≡ map (λ (f : FileName × List ℕ). f.0) texts → (n : FileName) → Contains names n → Contains (written_names Balance) n
 prepared-names seats p done texts lines x names same n h =
-    names-within seats p x.answer n (subst (λ xs. Contains xs n) (same ∙ ap (map (λ (f : FileName × List ℕ). f.0)) x.written) h)
+    names-within (seats_shown p x.answer seats) p x.answer n (subst (λ xs. Contains xs n) (same ∙ ap (map (λ (f : FileName × List ℕ). f.0)) x.written) h)
 
 pub failed-writes : (c : Command) (names : List FileName) → ((n : FileName) → Contains names n → Contains (written_names c) n) → (stopped : Status) → StopsDelivery names stopped
     → (before between now : ℕ) (last : Option FileName) → before ≤ between → FailsWriting between now last stopped

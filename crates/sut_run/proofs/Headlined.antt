@@ -33,29 +33,30 @@ use Rattle.sut_run.specs.declared.commands.Command.TheVariants.{Balance}
 use Rattle.sut_run.specs.Inputs.{for_balance, refused}
 use Rattle.sut_review.specs.Seats.{SeatFacts}
 use Rattle.sut_review.specs.ReviewText.{review_text}
-use Rattle.sut_run.specs.Deliveries.{ReadsBack, answer_files, review_files, seats_shown, status_of}
+use Rattle.sut_editing.specs.Shown.{seats_shown}
+use Rattle.sut_run.specs.Deliveries.{ReadsBack, answer_files, review_files, status_of}
 use Rattle.sut_run.specs.Prepared.{IsPrepared}
 use Rattle.sut_run.specs.Headlines.{Headline, WritesCut, WritesLeast}
 use Rattle.sut_run.specs.Steps.{Delivered}
 
-spelled : {A F : Type 0} (held : Option (List ℕ)) (text : List ℕ) (read : List ℕ → Result A F) (value : A) → held ≡ Some text → length text ≤ FILE_LIMIT → read text ≡ Ok value
+pub spelled : {A F : Type 0} (held : Option (List ℕ)) (text : List ℕ) (read : List ℕ → Result A F) (value : A) → held ≡ Some text → length text ≤ FILE_LIMIT → read text ≡ Ok value
     → IsSomeAnd held (λ bytes. (length bytes ≤ FILE_LIMIT) × (read bytes ≡ Ok value))
 spelled held text read value e short is = subst (λ h. IsSomeAnd h (λ bytes. (length bytes ≤ FILE_LIMIT) × (read bytes ≡ Ok value))) (sym e) (short, is)
 
 -- the problem that three files spell
-problem_by : Option (List ℕ) → Option (List ℕ) → Option (List ℕ) → Result (SettingsFacts × ProblemFacts) InputFault
-problem_by settings classes source =
+unfoldable pub problem_by : FileName → Option (List ℕ) → Option (List ℕ) → Option (List ℕ) → Result (SettingsFacts × ProblemFacts) InputFault
+problem_by name settings classes source =
     and_then (and_then (bytes_or (fault.Missing SettingsToml) (fault.TooLong SettingsToml) settings) (λ bytes. fault_as fault.BadSettings (settings_of bytes))) (λ s.
     and_then (and_then (bytes_or (fault.Missing ClassesCsv) (fault.TooLong ClassesCsv) classes) (λ bytes. fault_as fault.BadClasses (classes_of bytes))) (λ cs.
-    and_then (and_then (bytes_or (fault.Missing SourceCsv) (fault.TooLong SourceCsv) source) (λ bytes. fault_as fault.BadSource (source_of s cs bytes))) (λ p. Ok (s, p))))
+    and_then (and_then (bytes_or (fault.Missing name) (fault.TooLong name) source) (λ bytes. fault_as fault.BadSource (source_of s cs bytes))) (λ p. Ok (s, p))))
 
-problem-by : (files : Files) → problem_in SourceCsv None files ≡ problem_by (files SettingsToml) (files ClassesCsv) (files SourceCsv)
+pub problem-by : (name : FileName) (files : Files) → problem_in name None files ≡ problem_by name (files SettingsToml) (files ClassesCsv) (files name)
 unfolding problem_by
-problem-by files = refl
+problem-by name files = refl
 
 -- files that hold the same three spell the same problem
 same-problem : (old new : Files) → new SettingsToml ≡ old SettingsToml → new ClassesCsv ≡ old ClassesCsv → new SourceCsv ≡ old SourceCsv → problem_in SourceCsv None new ≡ problem_in SourceCsv None old
-same-problem old new s c x = problem-by new ∙ (λ i. problem_by (s i) (c i) (x i)) ∙ sym (problem-by old)
+same-problem old new s c x = problem-by SourceCsv new ∙ (λ i. problem_by SourceCsv (s i) (c i) (x i)) ∙ sym (problem-by SourceCsv old)
 
 given : (s : SettingsFacts) (p : ProblemFacts) (old : Files) → problem_in SourceCsv None old ≡ Ok (s, p) → and_then (fault_as refused (problem_in SourceCsv None old)) for_balance ≡ for_balance (s, p)
 given s p old e = ap (λ r. and_then (fault_as refused r) for_balance) e
@@ -71,16 +72,16 @@ review-aside [] files name e = refl
 review-aside (seat ∷ seats) files name e = ap (λ (b : Bool). if b then Some (review_text (seat ∷ seats)) else files name) e
 
 -- what stands under a name other than that of the review
-stands-at : (seats : List SeatFacts) (texts : List (FileName × List ℕ)) (now new : Files) → WrittenAll (texts ++ review_files seats) now new
+pub stands-at : (seats : List SeatFacts) (texts : List (FileName × List ℕ)) (now new : Files) → WrittenAll (texts ++ review_files seats) now new
     → (name : FileName) → same_name name ReviewCsv ≡ false → new name ≡ after_writes texts now name
 stands-at seats texts now new written name e = written name ∙ after-append texts (review_files seats) now name ∙ review-aside seats (after_writes texts now) name e
 
 -- ---- the headline
 
-headline-balanced : (s : SettingsFacts) (p : ProblemFacts) (a : Answer) → IsRight p a → ReadsBack p a → status_of a ≡ Balanced → (old now new : Files) → SameFiles old now → problem_in SourceCsv None old ≡ Ok (s, p)
-    → ((name : FileName) → same_name name ReviewCsv ≡ false → new name ≡ after_writes (answer_files p a) now name) → Headline Balance WritesLeast old new
-headline-balanced s p (answer.Infeasible set) is_right reads ends old now new same read at = absurd cc
-headline-balanced s p (answer.Balanced t ps) is_right reads ends old now new same read at = record {
+headline-balanced : (seats : List SeatFacts) (s : SettingsFacts) (p : ProblemFacts) (a : Answer) → IsRight p a → ReadsBack p a → status_of a ≡ Balanced → (old now new : Files) → SameFiles old now → problem_in SourceCsv None old ≡ Ok (s, p)
+    → ((name : FileName) → same_name name ReviewCsv ≡ false → new name ≡ after_writes (answer_files p a) now name) → Headline seats Balance WritesLeast old new
+headline-balanced seats s p (answer.Infeasible set) is_right reads ends old now new same read at = absurd cc
+headline-balanced seats s p (answer.Balanced t ps) is_right reads ends old now new same read at = record {
   problem = p;
   settings = s;
   given = given s p old read;
@@ -99,10 +100,10 @@ headline-balanced s p (answer.Balanced t ps) is_right reads ends old now new sam
   };
 }
 
-headline-infeasible : (s : SettingsFacts) (p : ProblemFacts) (a : Answer) → IsRight p a → ReadsBack p a → IsTrue (is_infeasible a) ↔ IsImpossible p → status_of a ≡ Infeasible → (old now new : Files) → SameFiles old now → problem_in SourceCsv None old ≡ Ok (s, p)
-    → ((name : FileName) → same_name name ReviewCsv ≡ false → new name ≡ after_writes (answer_files p a) now name) → Headline Balance WritesCut old new
-headline-infeasible s p (answer.Balanced t ps) is_right reads none ends old now new same read at = absurd cc
-headline-infeasible s p (answer.Infeasible set) is_right reads none ends old now new same read at = record {
+headline-infeasible : (seats : List SeatFacts) (s : SettingsFacts) (p : ProblemFacts) (a : Answer) → IsRight p a → ReadsBack p a → IsTrue (is_infeasible a) ↔ IsImpossible p → status_of a ≡ Infeasible → (old now new : Files) → SameFiles old now → problem_in SourceCsv None old ≡ Ok (s, p)
+    → ((name : FileName) → same_name name ReviewCsv ≡ false → new name ≡ after_writes (answer_files p a) now name) → Headline seats Balance WritesCut old new
+headline-infeasible seats s p (answer.Balanced t ps) is_right reads none ends old now new same read at = absurd cc
+headline-infeasible seats s p (answer.Infeasible set) is_right reads none ends old now new same read at = record {
   problem = p;
   settings = s;
   given = given s p old read;
@@ -119,18 +120,18 @@ headline-infeasible s p (answer.Infeasible set) is_right reads none ends old now
 
 pub balanced-told : (seats : List SeatFacts) (s : SettingsFacts) (p : ProblemFacts) (done : Status) (texts : List (FileName × List ℕ)) (lines : List ℕ) → IsPrepared seats p done texts lines → done ≡ Balanced
     → (before after : Option (List ℕ)) (old now new : Option Files) → Told old now SameFiles → IfSome old (λ files. problem_in SourceCsv None files ≡ Ok (s, p))
-    → Told now new (λ x y. Delivered texts lines {T = Unit {0}} (Ok tt) x y before after) → Told old new (Headline Balance WritesLeast)
+    → Told now new (λ x y. Delivered texts lines {T = Unit {0}} (Ok tt) x y before after) → Told old new (Headline seats Balance WritesLeast)
 balanced-told seats s p done texts lines made e before after old now new kept ok stands =
-    told_then (λ (x y : Files). SameFiles x y × (problem_in SourceCsv None x ≡ Ok (s, p))) (λ x y. Delivered texts lines {T = Unit {0}} (Ok tt) x y before after) (Headline Balance WritesLeast)
-    (λ x y z read w. headline-balanced s p made.answer made.right made.reads_back (sym made.ends ∙ e) x y z read.0 read.1
+    told_then (λ (x y : Files). SameFiles x y × (problem_in SourceCsv None x ≡ Ok (s, p))) (λ x y. Delivered texts lines {T = Unit {0}} (Ok tt) x y before after) (Headline seats Balance WritesLeast)
+    (λ x y z read w. headline-balanced seats s p made.answer made.right made.reads_back (sym made.ends ∙ e) x y z read.0 read.1
     (stands-at (seats_shown p made.answer seats) (answer_files p made.answer) y z (subst (λ t. WrittenAll t y z) made.written w.0)))
     old now new (told_with SameFiles (λ (files : Files). problem_in SourceCsv None files ≡ Ok (s, p)) old now kept ok) stands
 
 pub infeasible-told : (seats : List SeatFacts) (s : SettingsFacts) (p : ProblemFacts) (done : Status) (texts : List (FileName × List ℕ)) (lines : List ℕ) → IsPrepared seats p done texts lines → done ≡ Infeasible
     → (before after : Option (List ℕ)) (old now new : Option Files) → Told old now SameFiles → IfSome old (λ files. problem_in SourceCsv None files ≡ Ok (s, p))
-    → Told now new (λ x y. Delivered texts lines {T = Unit {0}} (Ok tt) x y before after) → Told old new (Headline Balance WritesCut)
+    → Told now new (λ x y. Delivered texts lines {T = Unit {0}} (Ok tt) x y before after) → Told old new (Headline seats Balance WritesCut)
 infeasible-told seats s p done texts lines made e before after old now new kept ok stands =
-    told_then (λ (x y : Files). SameFiles x y × (problem_in SourceCsv None x ≡ Ok (s, p))) (λ x y. Delivered texts lines {T = Unit {0}} (Ok tt) x y before after) (Headline Balance WritesCut)
-    (λ x y z read w. headline-infeasible s p made.answer made.right made.reads_back made.impossible (sym made.ends ∙ e) x y z read.0 read.1
+    told_then (λ (x y : Files). SameFiles x y × (problem_in SourceCsv None x ≡ Ok (s, p))) (λ x y. Delivered texts lines {T = Unit {0}} (Ok tt) x y before after) (Headline seats Balance WritesCut)
+    (λ x y z read w. headline-infeasible seats s p made.answer made.right made.reads_back made.impossible (sym made.ends ∙ e) x y z read.0 read.1
     (stands-at (seats_shown p made.answer seats) (answer_files p made.answer) y z (subst (λ t. WrittenAll t y z) made.written w.0)))
     old now new (told_with SameFiles (λ (files : Files). problem_in SourceCsv None files ≡ Ok (s, p)) old now kept ok) stands

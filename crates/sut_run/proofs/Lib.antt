@@ -4,5 +4,7 @@ pub mod Words
 pub mod Texts
 pub mod Delivered
 pub mod Headlined
+pub mod EditDelivered
+pub mod EditHeadlined
 pub mod Complete
 pub mod Named

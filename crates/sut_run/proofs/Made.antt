@@ -18,9 +18,9 @@ memory-told seats c None sent = tt
 memory-told seats c (Some files) sent = inl ((λ name. refl), sent-same sent)
 
 -- nothing is read
-pub given-made : (seed products industries : ℕ) (held : Option Files) → IfSome held (λ files. input_of (Generate seed products industries) None files ≡ Ok (to_generate seed products industries))
-given-made seed products industries None = tt
-given-made seed products industries (Some files) = refl
+pub given-made : (seats : List SeatFacts) (seed products industries : ℕ) (held : Option Files) → IfSome held (λ files. input_of seats (Generate seed products industries) None files ≡ Ok (to_generate seed products industries))
+given-made seats seed products industries None = tt
+given-made seats seed products industries (Some files) = refl
 
 pub made-names : (seed products industries : ℕ) (d : Delivery) → IsMadeYear seed products industries d → (names : List FileName) → names ≡ map (λ (f : FileName × List ℕ). f.0) d.texts
     → (n : FileName) → Contains names n → Contains (written_names (Generate seed products industries)) n

@@ -5,7 +5,8 @@ use Rattle.sut_outside.specs.declared.names.FileName.{FileName}
 use Rattle.sut_outside.specs.Files.{Files, Told}
 use Rattle.sut_outside.specs.Causes.{Rose}
 use Rattle.sut_status.specs.declared.statuses.Status.{Status}
-use Rattle.sut_status.specs.declared.statuses.Status.TheVariants.{Balanced, Generated, NoMemory, Usage, Infeasible, BadSettings, BadClasses, BadSource, ReadFault, WriteFault, Missing, SinkFault, TooLong}
+use Rattle.sut_status.specs.declared.statuses.Status.TheVariants.{Balanced, Generated, NoMemory, Usage, Infeasible, BadSettings, BadClasses, BadSource, BadEdits, ReadFault, WriteFault, Missing, SinkFault, TooLong}
+use Rattle.sut_review.specs.Seats.{SeatFacts}
 use Rattle.sut_run.specs.declared.commands.Command.{Command}
 use Rattle.sut_run.specs.Commands.{read_names, written_names}
 use Rattle.sut_run.specs.Inputs.{input_of}
@@ -45,6 +46,7 @@ if-read Infeasible R P Q h = tt
 if-read (BadSettings e) R P Q h = tt
 if-read (BadClasses e) R P Q h = tt
 if-read (BadSource e) R P Q h = tt
+if-read (BadEdits e) R P Q h = tt
 if-read (ReadFault n) R P Q h = h.0
 if-read (WriteFault n) R P Q h = tt
 if-read (Missing n) R P Q h = tt
@@ -60,6 +62,7 @@ if-write Infeasible R P Q h = tt
 if-write (BadSettings e) R P Q h = tt
 if-write (BadClasses e) R P Q h = tt
 if-write (BadSource e) R P Q h = tt
+if-write (BadEdits e) R P Q h = tt
 if-write (ReadFault n) R P Q h = tt
 if-write (WriteFault n) R P Q h = h.0
 if-write (Missing n) R P Q h = tt
@@ -67,11 +70,11 @@ if-write SinkFault R P Q h = tt
 if-write (TooLong n) R P Q h = tt
 
 -- where the input is given and no count rose, the run is done, or memory ran out
-pub complete-told : (c : Command) (held : Option Files) (s : Status) (before now : ℕ) (last : Option FileName) {K : Type 0} → IfSome held (λ files. AnswersInput c files s)
+pub complete-told : (seats : List SeatFacts) (c : Command) (held : Option Files) (s : Status) (before now : ℕ) (last : Option FileName) {K : Type 0} → IfSome held (λ files. AnswersInput seats c files s)
     → IfReadFault s (λ failed. Rose before now × (last ≡ Some failed) × Contains (read_names c) failed)
     → IfWriteFault s (λ failed. Rose before now × (last ≡ Some failed) × Contains (written_names c) failed)
     → (s ≡ SinkFault → K)
-    → IfSome held (λ files. IsOk (input_of c None files) → ¬ Rose before now → ¬ K → (s ≡ NoMemory) ⊎ IsDone s)
-complete-told c None s before now last says read write sink = tt
-complete-told c (Some files) s before now last says read write sink =
-    complete_from c files _ _ s says (if-read s (Rose before now) (λ failed. last ≡ Some failed) (λ failed. Contains (read_names c) failed) read) (if-write s (Rose before now) (λ failed. last ≡ Some failed) (λ failed. Contains (written_names c) failed) write) sink
+    → IfSome held (λ files. IsOk (input_of seats c None files) → ¬ Rose before now → ¬ K → (s ≡ NoMemory) ⊎ IsDone s)
+complete-told seats c None s before now last says read write sink = tt
+complete-told seats c (Some files) s before now last says read write sink =
+    complete_from seats c files _ _ s says (if-read s (Rose before now) (λ failed. last ≡ Some failed) (λ failed. Contains (read_names c) failed) read) (if-write s (Rose before now) (λ failed. last ≡ Some failed) (λ failed. Contains (written_names c) failed) write) sink

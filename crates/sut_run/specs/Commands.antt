@@ -1,14 +1,15 @@
 -- The commands, their words, and the files that each reads and may write.
-use Rattle.std.specs.Prelude.{ℕ, ℤ, pos, int_lt, unsigned_abs, List, [], ◌∷◌, Option, Some, None, Result, Ok, Err, codes, if◌then◌else◌}
+use Rattle.std.specs.Prelude.{ℕ, ℤ, pos, int_lt, unsigned_abs, List, [], ◌∷◌, ◌++◌, Option, Some, None, Result, Ok, Err, codes, if◌then◌else◌}
 use Rattle.std.specs.Str.{bytes_eq}
 use Rattle.sut_outside.specs.declared.names.FileName.{FileName}
-use Rattle.sut_outside.specs.declared.names.FileName.TheVariants.{SourceCsv, BalancedCsv, SupplyCsv, UseCsv, AccountsCsv, CertificateCsv, ReportJson, ReviewCsv, MadeSettingsToml, MadeClassesCsv, MadeSourceCsv}
+use Rattle.sut_outside.specs.declared.names.FileName.TheVariants.{SourceCsv, BalancedCsv, SupplyCsv, UseCsv, AccountsCsv, CertificateCsv, ReportJson, ReviewCsv, EditedCsv, TrailCsv, MadeSettingsToml, MadeClassesCsv, MadeSourceCsv}
 use Rattle.sut_text.specs.Number.{whole_of}
 use Rattle.sut_text.specs.declared.numbers.NumberFault.{NumberFault}
 use Rattle.sut_generate.specs.Generator.{is_size}
 use Rattle.sut_input.specs.Inputs.{problem_names}
+use Rattle.sut_input.specs.EditInputs.{edit_names}
 use Rattle.sut_run.specs.declared.commands.Command.{Command}
-use Rattle.sut_run.specs.declared.commands.Command.TheVariants.{Balance, Generate}
+use Rattle.sut_run.specs.declared.commands.Command.TheVariants.{Balance, Edit, Generate}
 
 -- a number, where it is not below 0
 abbrev pub natural_of : Result ℤ NumberFault → Option ℕ
@@ -21,7 +22,10 @@ natural word = natural_of (whole_of word)
 
 -- a command of one word
 abbrev pub named : List ℕ → Option Command
-named word = if bytes_eq word (codes "balance") then Some Balance else None
+named word =
+    if bytes_eq word (codes "balance") then Some Balance
+    else if bytes_eq word (codes "edit") then Some Edit
+    else None
 
 -- a made year of this seed and size, where the generator makes one
 abbrev pub generate_of : Option ℕ → Option ℕ → Option ℕ → Option Command
@@ -45,9 +49,15 @@ command_of _ = None
 -- the files that a command reads, in order
 abbrev pub read_names : Command → List FileName
 read_names Balance = problem_names SourceCsv
+read_names Edit = edit_names
 read_names (Generate seed products industries) = []
+
+-- the files of an answer
+abbrev pub answer_names : List FileName
+answer_names = BalancedCsv ∷ SupplyCsv ∷ UseCsv ∷ AccountsCsv ∷ CertificateCsv ∷ ReportJson ∷ ReviewCsv ∷ []
 
 -- the files that a command may write, in order
 abbrev pub written_names : Command → List FileName
-written_names Balance = BalancedCsv ∷ SupplyCsv ∷ UseCsv ∷ AccountsCsv ∷ CertificateCsv ∷ ReportJson ∷ ReviewCsv ∷ []
+written_names Balance = answer_names
+written_names Edit = EditedCsv ∷ TrailCsv ∷ answer_names
 written_names (Generate seed products industries) = MadeSettingsToml ∷ MadeClassesCsv ∷ MadeSourceCsv ∷ []

@@ -1,13 +1,14 @@
 -- What a run delivers for its input: the texts that are written, in order, and the lines that are printed then.
 use Rattle.std.specs.Prelude.{◌≡◌, ◌≤◌, ℕ, List, [], ◌∷◌, ◌++◌, length, Ok}
 use Rattle.sut_outside.specs.declared.names.FileName.{FileName}
-use Rattle.sut_outside.specs.declared.names.FileName.TheVariants.{BalancedCsv, SupplyCsv, UseCsv, AccountsCsv, CertificateCsv, ReportJson, ReviewCsv, MadeSettingsToml, MadeClassesCsv, MadeSourceCsv}
+use Rattle.sut_outside.specs.declared.names.FileName.TheVariants.{BalancedCsv, SupplyCsv, UseCsv, AccountsCsv, CertificateCsv, ReportJson, ReviewCsv, EditedCsv, TrailCsv, MadeSettingsToml, MadeClassesCsv, MadeSourceCsv}
 use Rattle.sut_outside.specs.declared.shelf.TheConstants.{FILE_LIMIT}
 use Rattle.sut_settings.specs.SettingsFacts.{SettingsFacts}
 use Rattle.sut_settings.specs.SettingsFile.{settings_of}
 use Rattle.sut_classes.specs.ClassLists.{ClassLists}
 use Rattle.sut_classes.specs.ClassFile.{classes_of}
 use Rattle.sut_source.specs.SourceFile.{source_of}
+use Rattle.sut_source.specs.SourceText.{source_text}
 use Rattle.sut_tables.specs.ProblemFacts.{ProblemFacts}
 use Rattle.sut_tables.specs.TableFacts.{TableFacts}
 use Rattle.sut_tables.specs.Costs.{IsLeast}
@@ -25,12 +26,16 @@ use Rattle.sut_write.specs.Use.{use_text}
 use Rattle.sut_write.specs.Accounts.{accounts_text}
 use Rattle.sut_write.specs.Reports.{report_text}
 use Rattle.sut_write.specs.Screen.{generated_text, screen_text}
-use Rattle.sut_review.specs.Seats.{SeatFacts, all_shown}
+use Rattle.sut_review.specs.Seats.{SeatFacts}
 use Rattle.sut_review.specs.ReviewText.{review_text}
 use Rattle.sut_generate.specs.Generator.{made_classes, made_settings, made_source}
 use Rattle.sut_status.specs.declared.statuses.Status.{Status}
 use Rattle.sut_status.specs.declared.statuses.Status.TheVariants as status
-use Rattle.sut_run.specs.Inputs.{Given, to_balance, to_generate}
+use Rattle.sut_editing.specs.Moments.{Moments}
+use Rattle.sut_editing.specs.Events.{Event, IsAnswer}
+use Rattle.sut_editing.specs.Answered.{AreEventsOf, EndsWith}
+use Rattle.sut_editing.specs.Shown.{rebalances_text, seats_after, seats_shown, trail_text}
+use Rattle.sut_run.specs.Inputs.{Given, to_balance, to_edit, to_generate}
 
 pub record Delivery : Type 0 where
   pub texts : List (FileName × List ℕ)
@@ -66,14 +71,20 @@ abbrev pub review_files : List SeatFacts → List (FileName × List ℕ)
 review_files [] = []
 review_files (seat ∷ seats) = (ReviewCsv, review_text (seat ∷ seats)) ∷ []
 
--- the reviewers see the table of a balanced answer
-abbrev pub seats_shown : ProblemFacts → Answer → List SeatFacts → List SeatFacts
-seats_shown p (answer.Balanced t ps) seats = all_shown p t seats
-seats_shown p (answer.Infeasible set) seats = seats
-
 abbrev pub balance_delivery : List SeatFacts → ProblemFacts → Answer → Delivery
 balance_delivery seats p a =
     record { texts = answer_files p a ++ review_files (seats_shown p a seats); lines = screen_text p a }
+
+-- ---- a run of edits
+
+-- the rows after all edits, the balanced tables, and then what is written of the last answer
+abbrev pub edited_files : List SeatFacts → SettingsFacts → ProblemFacts → List Event → Answer → List (FileName × List ℕ)
+edited_files seats s last events a =
+    (EditedCsv, source_text s last) ∷ (TrailCsv, trail_text events) ∷ (answer_files last a ++ review_files (seats_after events seats))
+
+-- a line for each rebalance, and then those of the last answer
+abbrev pub edit_lines : ProblemFacts → List Event → Answer → List ℕ
+edit_lines last events a = rebalances_text events ++ screen_text last a
 
 -- ---- a made year
 
@@ -115,8 +126,19 @@ pub record GivesAnswer (seats : List SeatFacts) (p : ProblemFacts) (done : Statu
   pub ends : done ≡ status_of answer
   pub delivers : d ≡ balance_delivery seats p answer
 
+-- right answers to the problems of a run of edits are delivered, the last of them whole
+pub record GivesEdits (seats : List SeatFacts) (s : SettingsFacts) (m : Moments) (done : Status) (d : Delivery) : Type 0 where
+  pub events : List Event
+  pub answer : Answer
+  pub happened : AreEventsOf m.list events
+  pub last : EndsWith events m.last answer
+  pub right : IsAnswer m.last answer
+  pub ends : done ≡ status_of answer
+  pub delivers : d ≡ record { texts = edited_files seats s m.last events answer; lines = edit_lines m.last events answer }
+
 abbrev pub Gives : List SeatFacts → Given → Status → Delivery → Type 0
 Gives seats (to_balance s p) done d = GivesAnswer seats p done d
+Gives seats (to_edit s m) done d = GivesEdits seats s m done d
 Gives seats (to_generate seed products industries) done d = (done ≡ status.Generated) × IsMadeYear seed products industries d
 
 -- ---- what is written for the separate check reads back, and is no longer than a read gives
@@ -132,3 +154,7 @@ pub record SpellsCertificate (p : ProblemFacts) (c : Certificate) : Type 0 where
 abbrev pub ReadsBack : ProblemFacts → Answer → Type 0
 ReadsBack p (answer.Balanced t ps) = SpellsTable p t × SpellsCertificate p (certificate.Potentials ps)
 ReadsBack p (answer.Infeasible set) = SpellsCertificate p (certificate.Cut set)
+
+pub record SpellsSource (s : SettingsFacts) (p : ProblemFacts) : Type 0 where
+  pub short : length (source_text s p) ≤ FILE_LIMIT
+  pub read : source_of s p.classes (source_text s p) ≡ Ok p

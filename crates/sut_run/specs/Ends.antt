@@ -5,7 +5,7 @@ use Rattle.sut_outside.specs.Files.{Files, SameFiles, Told}
 use Rattle.sut_outside.specs.Deliveries.{WrittenAll, StoppedAt}
 use Rattle.sut_outside.specs.Sent.{AppendsPart}
 use Rattle.sut_status.specs.declared.statuses.Status.{Status}
-use Rattle.sut_status.specs.declared.statuses.Status.TheVariants.{Balanced, Generated, NoMemory, Usage, Infeasible, BadSettings, BadClasses, BadSource, ReadFault, WriteFault, Missing, SinkFault, TooLong}
+use Rattle.sut_status.specs.declared.statuses.Status.TheVariants.{Balanced, Generated, NoMemory, Usage, Infeasible, BadSettings, BadClasses, BadSource, BadEdits, ReadFault, WriteFault, Missing, SinkFault, TooLong}
 use Rattle.sut_run.specs.declared.commands.Command.{Command}
 use Rattle.sut_run.specs.Inputs.{input_of}
 use Rattle.sut_review.specs.Seats.{SeatFacts}
@@ -22,20 +22,21 @@ IsDone _ = ⊥
 -- What an answer says of the input at entry. Want of memory: nothing. A failed read: where that read fails, nothing is
 -- refused before it. A failed write or put, or a run that was done: the input was accepted. Any other answer is the
 -- input's first refusal.
-abbrev pub AnswersInput : Command → Files → Status → Type 0
-AnswersInput c files NoMemory = ⊤
-AnswersInput c files (ReadFault name) = input_of c (Some name) files ≡ Err (ReadFault name)
-AnswersInput c files (WriteFault name) = IsOk (input_of c None files)
-AnswersInput c files SinkFault = IsOk (input_of c None files)
-AnswersInput c files Balanced = IsOk (input_of c None files)
-AnswersInput c files Generated = IsOk (input_of c None files)
-AnswersInput c files Infeasible = IsOk (input_of c None files)
-AnswersInput c files Usage = input_of c None files ≡ Err Usage
-AnswersInput c files (BadSettings e) = input_of c None files ≡ Err (BadSettings e)
-AnswersInput c files (BadClasses e) = input_of c None files ≡ Err (BadClasses e)
-AnswersInput c files (BadSource e) = input_of c None files ≡ Err (BadSource e)
-AnswersInput c files (Missing name) = input_of c None files ≡ Err (Missing name)
-AnswersInput c files (TooLong name) = input_of c None files ≡ Err (TooLong name)
+abbrev pub AnswersInput : List SeatFacts → Command → Files → Status → Type 0
+AnswersInput seats c files NoMemory = ⊤
+AnswersInput seats c files (ReadFault name) = input_of seats c (Some name) files ≡ Err (ReadFault name)
+AnswersInput seats c files (WriteFault name) = IsOk (input_of seats c None files)
+AnswersInput seats c files SinkFault = IsOk (input_of seats c None files)
+AnswersInput seats c files Balanced = IsOk (input_of seats c None files)
+AnswersInput seats c files Generated = IsOk (input_of seats c None files)
+AnswersInput seats c files Infeasible = IsOk (input_of seats c None files)
+AnswersInput seats c files Usage = input_of seats c None files ≡ Err Usage
+AnswersInput seats c files (BadSettings e) = input_of seats c None files ≡ Err (BadSettings e)
+AnswersInput seats c files (BadClasses e) = input_of seats c None files ≡ Err (BadClasses e)
+AnswersInput seats c files (BadSource e) = input_of seats c None files ≡ Err (BadSource e)
+AnswersInput seats c files (BadEdits e) = input_of seats c None files ≡ Err (BadEdits e)
+AnswersInput seats c files (Missing name) = input_of seats c None files ≡ Err (Missing name)
+AnswersInput seats c files (TooLong name) = input_of seats c None files ≡ Err (TooLong name)
 
 -- nothing was written and nothing was printed
 abbrev pub LeavesAll : Files → Files → Option (List ℕ) → Option (List ℕ) → Type 0
@@ -52,7 +53,7 @@ Delivers d ends done old new before after = (done ≡ ends) × WrittenAll d.text
 -- a right delivery for the input at entry was begun, and this is what it left
 abbrev pub DeliversRight : List SeatFacts → Command → Status → Files → Files → Option (List ℕ) → Option (List ℕ) → Type 0
 DeliversRight seats c status old new before after =
-    IsOkAnd (input_of c None old)
+    IsOkAnd (input_of seats c None old)
     (λ input. (ends : Status) × (d : Delivery) × Gives seats input ends d × Delivers d ends status old new before after)
 
 -- What stands on the shelf and went out of the sink after a run, by its answer. The reviewers are as they were handed in.

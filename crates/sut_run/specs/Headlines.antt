@@ -1,7 +1,7 @@
 -- What the written files say by themselves, read back by the readers' own definitions.
 use Rattle.std.specs.Prelude.{◌≡◌, ◌≤◌, ℕ, ℤ, List, length, None, Ok, Result, IsSomeAnd, ⊤}
 use Rattle.sut_outside.specs.declared.names.FileName.{FileName}
-use Rattle.sut_outside.specs.declared.names.FileName.TheVariants.{SourceCsv, BalancedCsv, CertificateCsv, MadeSourceCsv}
+use Rattle.sut_outside.specs.declared.names.FileName.TheVariants.{SourceCsv, EditedCsv, BalancedCsv, CertificateCsv, MadeSourceCsv}
 use Rattle.sut_outside.specs.declared.shelf.TheConstants.{FILE_LIMIT}
 use Rattle.sut_outside.specs.Files.{Files}
 use Rattle.sut_settings.specs.SettingsFacts.{SettingsFacts}
@@ -16,22 +16,27 @@ use Rattle.sut_cert.specs.declared.certificates.Certificate.TheVariants as certi
 use Rattle.sut_readback.specs.BalancedFile.{balanced_of}
 use Rattle.sut_input.specs.Inputs.{problem_in}
 use Rattle.sut_run.specs.declared.commands.Command.{Command}
-use Rattle.sut_run.specs.declared.commands.Command.TheVariants.{Balance, Generate}
-use Rattle.sut_run.specs.Inputs.{input_of, to_balance}
+use Rattle.sut_run.specs.declared.commands.Command.TheVariants.{Balance, Edit, Generate}
+use Rattle.sut_review.specs.Seats.{SeatFacts}
+use Rattle.sut_editing.specs.Moments.{Moments}
+use Rattle.sut_run.specs.Inputs.{input_of, to_balance, to_edit}
 
--- the problem whose answer is written
-abbrev pub IsLastProblem : Command → Files → SettingsFacts → ProblemFacts → Type 0
-IsLastProblem Balance old s p = input_of Balance None old ≡ Ok (to_balance s p)
-IsLastProblem (Generate seed products industries) old s p = ⊥
+-- the problem whose answer is written: that of the source, or that of the rows after all edits
+abbrev pub IsLastProblem : List SeatFacts → Command → Files → SettingsFacts → ProblemFacts → Type 0
+IsLastProblem seats Balance old s p = input_of seats Balance None old ≡ Ok (to_balance s p)
+IsLastProblem seats Edit old s p = (m : Moments) × (input_of seats Edit None old ≡ Ok (to_edit s m)) × (p ≡ m.last)
+IsLastProblem seats (Generate seed products industries) old s p = ⊥
 
 -- the name under which the source of that problem stands at exit
 abbrev pub source_name : Command → FileName
 source_name Balance = SourceCsv
+source_name Edit = EditedCsv
 source_name (Generate seed products industries) = MadeSourceCsv
 
 -- the commands whose answers are balanced or infeasible, and written for the separate check
 abbrev pub IsChecked : Command → Type 0
 IsChecked Balance = ⊤
+IsChecked Edit = ⊤
 IsChecked (Generate seed products industries) = ⊥
 
 -- a text stands under the name, is no longer than a read gives, and spells this
@@ -62,9 +67,9 @@ pub record WritesCut (p : ProblemFacts) (files : Files) : Type 0 where
 
 -- What a balanced and an infeasible answer say of the files at entry and at exit. At exit the files spell the problem
 -- again, so that the separate check reads what is said here.
-pub record Headline (c : Command) (W : ProblemFacts → Files → Type 0) (old new : Files) : Type 0 where
+pub record Headline (seats : List SeatFacts) (c : Command) (W : ProblemFacts → Files → Type 0) (old new : Files) : Type 0 where
   pub problem : ProblemFacts
   pub settings : SettingsFacts
-  pub given : IsLastProblem c old settings problem
+  pub given : IsLastProblem seats c old settings problem
   pub spelled : problem_in (source_name c) None new ≡ Ok (settings, problem)
   pub written : W problem new

@@ -30,7 +30,7 @@ use sut_review::Reviewer;
 use sut_status::Status;
 use sut_tables::Problem;
 
-fn refused(fault: InputFault) -> Status
+pub(crate) fn refused(fault: InputFault) -> Status
     ensures { result ≡ refused fault }
 {
     match fault {
@@ -63,11 +63,11 @@ pub(crate) fn answer_to(alloc: Global, p: &Problem) -> Result<Answer, NoMemory>
     counted::<Brand>(alloc, p, Blank::new(1))
 }
 
-/// What is delivered for a problem, and the status of the run after it.
+/// What is delivered, and the status of the run after it.
 #[derive(Drop)]
-struct Prepared {
-    done: Status,
-    made: Made,
+pub(crate) struct Prepared {
+    pub(crate) done: Status,
+    pub(crate) made: Made,
 }
 
 // Balances, shows the table to the reviewers, and makes all texts.
@@ -94,13 +94,13 @@ pub(crate) fn run_balance<F: Shelf, K: Sink>(
     reviewers: Vec<Box<dyn Reviewer>>,
 ) -> Status
     requires { All (λ b. marked b ≡ 0) reviewers.items }
-    ensures input { IfSome (F.files shelf.old) (λ files. AnswersInput Command.Balance files result) }
+    ensures input { IfSome (F.files shelf.old) (λ files. AnswersInput (map (λ b. new_seat (name b) (rule b)) reviewers.items) Command.Balance files result) }
     ensures stands { Told (F.files shelf.old) (F.files shelf.new) (Stands (map (λ b. new_seat (name b) (rule b)) reviewers.items) Command.Balance result (K.sent out.old) (K.sent out.new)) }
     ensures read_fault { IfReadFault result (λ failed. Rose (F.faults shelf.old) (F.faults shelf.new) × (F.last_failed shelf.new ≡ Some failed) × Contains (read_names Command.Balance) failed) }
     ensures write_fault { IfWriteFault result (λ failed. Rose (F.faults shelf.old) (F.faults shelf.new) × (F.last_failed shelf.new ≡ Some failed) × Contains (written_names Command.Balance) failed) }
     ensures sink_fault { result ≡ Status.SinkFault → Rose (K.faults out.old) (K.faults out.new) }
-    ensures balanced { result ≡ Status.Balanced → Told (F.files shelf.old) (F.files shelf.new) (Headline Command.Balance WritesLeast) }
-    ensures infeasible { result ≡ Status.Infeasible → Told (F.files shelf.old) (F.files shelf.new) (Headline Command.Balance WritesCut) }
+    ensures balanced { result ≡ Status.Balanced → Told (F.files shelf.old) (F.files shelf.new) (Headline (map (λ b. new_seat (name b) (rule b)) reviewers.items) Command.Balance WritesLeast) }
+    ensures infeasible { result ≡ Status.Infeasible → Told (F.files shelf.old) (F.files shelf.new) (Headline (map (λ b. new_seat (name b) (rule b)) reviewers.items) Command.Balance WritesCut) }
     ensures used { (result ≡ Status.Usage) → ⊥ }
 {
     let input = match read_problem(alloc, shelf, FileName::SourceCsv) {

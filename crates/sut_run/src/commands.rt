@@ -11,6 +11,8 @@ use sut_text::read_whole;
 pub enum Command {
     /// Balances the source of a year.
     Balance,
+    /// Balances the source of a year under edits of its rows.
+    Edit,
     /// Makes a year from a seed, with so many products and industries, and balances it.
     Generate(u32, u32, u32),
 }
@@ -20,6 +22,8 @@ fn command_of_word(word: &str) -> Option<Command>
 {
     if word.as_bytes() == b"balance".as_slice() {
         Some(Command::Balance)
+    } else if word.as_bytes() == b"edit".as_slice() {
+        Some(Command::Edit)
     } else {
         None
     }

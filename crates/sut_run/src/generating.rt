@@ -243,7 +243,7 @@ pub(crate) fn run_generate<F: Shelf, K: Sink>(
     out: &mut K,
 ) -> Status
     requires { is_size seed products industries ≡ true }
-    ensures input { IfSome (F.files shelf.old) (λ files. AnswersInput (Command.Generate seed products industries) files result) }
+    ensures input { (seats : List SeatFacts) → IfSome (F.files shelf.old) (λ files. AnswersInput seats (Command.Generate seed products industries) files result) }
     ensures stands { (seats : List SeatFacts) → Told (F.files shelf.old) (F.files shelf.new) (Stands seats (Command.Generate seed products industries) result (K.sent out.old) (K.sent out.new)) }
     ensures read_fault { IfReadFault result (λ failed. Rose (F.faults shelf.old) (F.faults shelf.new) × (F.last_failed shelf.new ≡ Some failed) × Contains (read_names (Command.Generate seed products industries)) failed) }
     ensures write_fault { IfWriteFault result (λ failed. Rose (F.faults shelf.old) (F.faults shelf.new) × (F.last_failed shelf.new ≡ Some failed) × Contains (written_names (Command.Generate seed products industries)) failed) }

@@ -3,6 +3,7 @@
 
 pub mod balancing;
 pub mod commands;
+mod editing;
 mod generating;
 mod outputs;
 mod reviewing;

@@ -5,7 +5,8 @@ ghost use Rattle.sut_tables.specs.Problems.{IsTableOf};
 ghost use Rattle.sut_cert.specs.Right.{IsRight};
 ghost use Rattle.sut_review.specs.Seats.{all_shown, new_seat};
 ghost use Rattle.sut_review.specs.ReviewText.{review_text};
-ghost use Rattle.sut_run.specs.Deliveries.{review_files, seats_shown};
+ghost use Rattle.sut_editing.specs.Shown.{seats_shown};
+ghost use Rattle.sut_run.specs.Deliveries.{review_files};
 ghost use Rattle.sut_run.specs.Outputs.{review_in};
 
 use no_memory::NoMemory;

@@ -12,6 +12,7 @@ ghost use Rattle.sut_run.specs.Steps.{IfReadFault, IfWriteFault};
 
 use crate::balancing::run_balance;
 use crate::commands::{Command, command_named};
+use crate::editing::run_edit;
 use crate::generating::run_generate;
 use std::alloc::Global;
 use sut_outside::{Shelf, Sink};
@@ -19,7 +20,7 @@ use sut_review::Reviewer;
 use sut_status::Status;
 
 /// Runs the command that the words name, over a shelf of files and a sink of printed lines, with the reviewers that the
-/// caller hands in, none of which has marked a row yet. The words are accepted exactly where they are `balance`, or
+/// caller hands in, none of which has marked a row yet. The words are accepted exactly where they are `balance`, or `edit`, or
 /// `generate SEED PRODUCTS INDUSTRIES` with three shortest decimals of a size that the generator makes.
 ///
 /// `balance` reads `settings.toml`, `classes.csv` and `source.csv`, each once, each parsed before the next is read. Where some
@@ -29,6 +30,12 @@ use sut_status::Status;
 /// Champernowne and Meade 1942). Where there is none, it writes a set of accounts whose bounds contradict each other
 /// (Hoffman) and a report, and prints both sums. Where reviewers were handed in, each sees a balanced table, and
 /// `review.csv` is written last.
+///
+/// `edit` reads `edits.csv` after these three, and takes its edits in order: a `set`, an `add` or a `drop` changes a row, a
+/// `balance` balances the rows as they are then, and a `dismiss` ends the standing of the first reviewer with its label. Where
+/// the last edit is no `balance`, there is one at the end. The reviewers that stand see each balanced table. It writes the rows
+/// after all edits (`edited.csv`), the cells of each balanced table (`trail.csv`), and then all that `balance` writes, of the
+/// last answer; and prints a line for each time that the rows were balanced before the lines of `balance`.
 ///
 /// `generate` writes `made_settings.toml`, `made_classes.csv` and `made_source.csv`, balances them in memory, and prints the
 /// number of rows and the least cost. It shows nothing to reviewers.
@@ -48,7 +55,7 @@ pub fn run<F: Shelf, K: Sink>(
     ensures unused { command_of (map string_bytes words.now) ≡ None → Told (F.files shelf.old) (F.files shelf.new) (λ old new. LeavesAll old new (K.sent out.old) (K.sent out.new)) }
 
     // What each answer says of the files at entry, and what stands after it.
-    ensures input { IfSome (command_of (map string_bytes words.now)) (λ c. IfSome (F.files shelf.old) (λ files. AnswersInput c files result)) }
+    ensures input { IfSome (command_of (map string_bytes words.now)) (λ c. IfSome (F.files shelf.old) (λ files. AnswersInput (map (λ b. new_seat (name b) (rule b)) reviewers.items) c files result)) }
     ensures stands { IfSome (command_of (map string_bytes words.now)) (λ c. Told (F.files shelf.old) (F.files shelf.new) (Stands (map (λ b. new_seat (name b) (rule b)) reviewers.items) c result (K.sent out.old) (K.sent out.new))) }
 
     // A fault of a device is answered only where its count rose, with the name of the last failed call.
@@ -60,17 +67,19 @@ pub fn run<F: Shelf, K: Sink>(
 
     // Where the input is given and no count rose, the run is done, or memory ran out.
     ensures complete { IfSome (command_of (map string_bytes words.now)) (λ c. IfSome (F.files shelf.old) (λ files.
-        IsOk (input_of c None files) → ¬ Rose (F.faults shelf.old) (F.faults shelf.new) → ¬ Rose (K.faults out.old) (K.faults out.new)
+        IsOk (input_of (map (λ b. new_seat (name b) (rule b)) reviewers.items) c None files) → ¬ Rose (F.faults shelf.old) (F.faults shelf.new) → ¬ Rose (K.faults out.old) (K.faults out.new)
         → (result ≡ Status.NoMemory) ⊎ IsDone result)) }
 
-    // Balanced: the written table is least, has one GDP, and the written certificate shows it.
-    ensures balanced { IfSome (command_of (map string_bytes words.now)) (λ c. result ≡ Status.Balanced → IsChecked c × Told (F.files shelf.old) (F.files shelf.new) (Headline c WritesLeast)) }
+    // Balanced: the written table is least for the source, or for the rows after all edits, has one GDP, and the written
+    // certificate shows it.
+    ensures balanced { IfSome (command_of (map string_bytes words.now)) (λ c. result ≡ Status.Balanced → IsChecked c × Told (F.files shelf.old) (F.files shelf.new) (Headline (map (λ b. new_seat (name b) (rule b)) reviewers.items) c WritesLeast)) }
 
     // Infeasible: the written set contradicts, and no table exists.
-    ensures infeasible { IfSome (command_of (map string_bytes words.now)) (λ c. result ≡ Status.Infeasible → IsChecked c × Told (F.files shelf.old) (F.files shelf.new) (Headline c WritesCut)) }
+    ensures infeasible { IfSome (command_of (map string_bytes words.now)) (λ c. result ≡ Status.Infeasible → IsChecked c × Told (F.files shelf.old) (F.files shelf.new) (Headline (map (λ b. new_seat (name b) (rule b)) reviewers.items) c WritesCut)) }
 {
     match command_named(words) {
         Some(Command::Balance) => run_balance(alloc, shelf, out, reviewers),
+        Some(Command::Edit) => run_edit(alloc, shelf, out, reviewers),
         Some(Command::Generate(seed, products, industries)) => {
             drop(reviewers);
             run_generate(alloc, seed, products, industries, shelf, out)

@@ -12,6 +12,7 @@ code status.Infeasible = 3
 code (status.BadSettings e) = 5
 code (status.BadClasses e) = 6
 code (status.BadSource e) = 7
+code (status.BadEdits e) = 8
 code (status.ReadFault n) = 10
 code (status.WriteFault n) = 11
 code (status.Missing n) = 12

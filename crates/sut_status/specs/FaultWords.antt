@@ -10,6 +10,8 @@ use Rattle.sut_settings.specs.declared.SettingsFault.{SettingsFault}
 use Rattle.sut_settings.specs.declared.SettingsFault.TheVariants as settings
 use Rattle.sut_source.specs.declared.faults.RowFault.{RowFault}
 use Rattle.sut_source.specs.declared.faults.RowFault.TheVariants as row
+use Rattle.sut_edits.specs.declared.faults.EditsCause.{EditsCause}
+use Rattle.sut_edits.specs.declared.faults.EditsCause.TheVariants as edits
 
 -- the word of an axis
 abbrev pub axis_word : Axis → List ℕ
@@ -73,3 +75,17 @@ row_words row.Crossed = codes "crossed" ∷ []
 row_words (row.Duplicate n) = codes "duplicate" ∷ decimal n ∷ []
 row_words row.TooMany = codes "too-many" ∷ []
 row_words row.NoMemory = codes "no-memory" ∷ []
+
+-- a fault of an edit; the fault of its row follows
+abbrev pub edit_words : EditsCause → List (List ℕ)
+edit_words edits.Csv = codes "csv" ∷ []
+edit_words edits.Header = codes "header" ∷ []
+edit_words edits.UnknownEdit = codes "unknown-edit" ∷ []
+edit_words (edits.NotEmpty f) = codes "not-empty" ∷ field_word f ∷ []
+edit_words (edits.BadRow r) = codes "bad-row" ∷ row_words r
+edit_words edits.TooMany = codes "too-many" ∷ []
+edit_words edits.NoRow = codes "no-row" ∷ []
+edit_words edits.RowThere = codes "row-there" ∷ []
+edit_words edits.Full = codes "full" ∷ []
+edit_words edits.NoReviewer = codes "no-reviewer" ∷ []
+edit_words edits.NoMemory = codes "no-memory" ∷ []

@@ -2,13 +2,14 @@
 use Rattle.std.specs.Prelude.{ℕ, List, [], ◌∷◌, ◌++◌, Option, Some, None, codes, decimal}
 use Rattle.sut_text.specs.Text.{spaced}
 use Rattle.sut_outside.specs.declared.names.FileName.{FileName}
-use Rattle.sut_outside.specs.declared.names.FileName.TheVariants.{SettingsToml, ClassesCsv, SourceCsv}
+use Rattle.sut_outside.specs.declared.names.FileName.TheVariants.{SettingsToml, ClassesCsv, SourceCsv, EditsCsv}
 use Rattle.sut_outside.specs.Names.{name_text}
 use Rattle.sut_classes.specs.declared.faults.ClassFault.{ClassFault}
 use Rattle.sut_classes.specs.declared.faults.ClassFault.TheVariants as class
 use Rattle.sut_settings.specs.declared.SettingsFault.{SettingsFault}
 use Rattle.sut_source.specs.declared.faults.SourceFault.{SourceFault}
-use Rattle.sut_status.specs.FaultWords.{class_words, row_words, settings_words}
+use Rattle.sut_edits.specs.declared.faults.EditsFault.{EditsFault}
+use Rattle.sut_status.specs.FaultWords.{class_words, edit_words, row_words, settings_words}
 use Rattle.sut_status.specs.declared.statuses.Status.{Status}
 use Rattle.sut_status.specs.declared.statuses.Status.TheVariants as status
 
@@ -44,6 +45,9 @@ class_text fault = in_classes (class_line fault) ++ spaced (class_words fault)
 abbrev pub source_text : SourceFault → List ℕ
 source_text fault = on_line SourceCsv fault.line ++ spaced (row_words fault.cause)
 
+abbrev pub edits_text : EditsFault → List ℕ
+edits_text fault = on_line EditsCsv fault.line ++ spaced (edit_words fault.cause)
+
 -- the words of a status, each behind a space
 abbrev pub status_text : Status → List ℕ
 status_text status.Balanced = spaced (codes "ok" ∷ [])
@@ -54,6 +58,7 @@ status_text status.Infeasible = spaced (codes "infeasible" ∷ [])
 status_text (status.BadSettings e) = settings_text e
 status_text (status.BadClasses e) = class_text e
 status_text (status.BadSource e) = source_text e
+status_text (status.BadEdits e) = edits_text e
 status_text (status.ReadFault n) = spaced (codes "cannot" ∷ codes "read" ∷ name_text n ∷ [])
 status_text (status.WriteFault n) = spaced (codes "cannot" ∷ codes "write" ∷ name_text n ∷ [])
 status_text (status.Missing n) = spaced (codes "missing" ∷ name_text n ∷ [])

@@ -3,10 +3,11 @@
 ghost use Rattle.std.specs.Prelude.{◌≡◌, ◌++◌, OnOk};
 ghost use Rattle.sut_text.specs.Text.{spaced};
 ghost use Rattle.sut_text.specs.Fields.{field_bytes};
-ghost use Rattle.sut_status.specs.FaultWords.{axis_word, class_words, field_word, row_words, settings_words};
+ghost use Rattle.sut_status.specs.FaultWords.{axis_word, class_words, edit_words, field_word, row_words, settings_words};
 
 use no_memory::NoMemory;
 use sut_classes::{Axis, ClassFault};
+use sut_edits::EditsCause;
 use sut_measures::Field;
 use sut_settings::SettingsFault;
 use sut_source::RowFault;
@@ -100,5 +101,27 @@ pub fn put_row_fault(out: &mut Vec<u8>, fault: RowFault) -> Result<(), NoMemory>
         RowFault::Duplicate(line) => put_words(out, &[Word::Text(b"duplicate"), Word::Count(line)]),
         RowFault::TooMany => put_words(out, &[Word::Text(b"too-many")]),
         RowFault::NoMemory => put_words(out, &[Word::Text(b"no-memory")]),
+    }
+}
+
+/// A fault of an edit, each word behind a space; the fault of its row follows.
+pub fn put_edit_fault(out: &mut Vec<u8>, fault: EditsCause) -> Result<(), NoMemory>
+    ensures { OnOk result (out.new.items ≡ out.old.items ++ spaced (edit_words fault)) }
+{
+    match fault {
+        EditsCause::Csv => put_words(out, &[Word::Text(b"csv")]),
+        EditsCause::Header => put_words(out, &[Word::Text(b"header")]),
+        EditsCause::UnknownEdit => put_words(out, &[Word::Text(b"unknown-edit")]),
+        EditsCause::NotEmpty(at) => put_words(out, &[Word::Text(b"not-empty"), field_word(at)]),
+        EditsCause::BadRow(row) => {
+            put_words(out, &[Word::Text(b"bad-row")])?;
+            put_row_fault(out, row)
+        }
+        EditsCause::TooMany => put_words(out, &[Word::Text(b"too-many")]),
+        EditsCause::NoRow => put_words(out, &[Word::Text(b"no-row")]),
+        EditsCause::RowThere => put_words(out, &[Word::Text(b"row-there")]),
+        EditsCause::Full => put_words(out, &[Word::Text(b"full")]),
+        EditsCause::NoReviewer => put_words(out, &[Word::Text(b"no-reviewer")]),
+        EditsCause::NoMemory => put_words(out, &[Word::Text(b"no-memory")]),
     }
 }

@@ -1,11 +1,12 @@
 //! Where a file is wrong: its name, and the line where there is one.
 
 ghost use Rattle.std.specs.Prelude.{◌≡◌, ◌++◌, OnOk};
-ghost use Rattle.sut_status.specs.StatusLines.{class_line, class_text, in_file, on_line, settings_text, source_text};
+ghost use Rattle.sut_status.specs.StatusLines.{class_line, class_text, edits_text, in_file, on_line, settings_text, source_text};
 
-use crate::faults::{put_class_fault, put_row_fault, put_settings_fault};
+use crate::faults::{put_class_fault, put_edit_fault, put_row_fault, put_settings_fault};
 use no_memory::NoMemory;
 use sut_classes::ClassFault;
+use sut_edits::EditsFault;
 use sut_outside::FileName;
 use sut_settings::SettingsFault;
 use sut_source::SourceFault;
@@ -75,4 +76,12 @@ pub fn put_bad_source(out: &mut Vec<u8>, fault: SourceFault) -> Result<(), NoMem
 {
     put_file_line(out, FileName::SourceCsv, fault.line)?;
     put_row_fault(out, fault.cause)
+}
+
+/// A fault of edits, read or applied.
+pub fn put_bad_edits(out: &mut Vec<u8>, fault: EditsFault) -> Result<(), NoMemory>
+    ensures { OnOk result (out.new.items ≡ out.old.items ++ edits_text fault) }
+{
+    put_file_line(out, FileName::EditsCsv, fault.line)?;
+    put_edit_fault(out, fault.cause)
 }

@@ -4,10 +4,11 @@ ghost use Rattle.std.specs.Prelude.{◌≡◌, ◌++◌, IfOk, OnOk};
 ghost use Rattle.sut_status.specs.Codes.{code};
 ghost use Rattle.sut_status.specs.StatusLines.{status_line, status_text};
 
-use crate::places::{put_bad_classes, put_bad_settings, put_bad_source};
+use crate::places::{put_bad_classes, put_bad_edits, put_bad_settings, put_bad_source};
 use no_memory::NoMemory;
 use std::alloc::Global;
 use sut_classes::ClassFault;
+use sut_edits::EditsFault;
 use sut_outside::FileName;
 use sut_settings::SettingsFault;
 use sut_source::SourceFault;
@@ -33,6 +34,8 @@ pub enum Status {
     BadClasses(ClassFault),
     /// The first fault of `source.csv`.
     BadSource(SourceFault),
+    /// The first fault of `edits.csv`, or the first of its edits that is refused.
+    BadEdits(EditsFault),
     /// A file could not be read.
     ReadFault(FileName),
     /// A file could not be written.
@@ -70,6 +73,7 @@ fn put_status(out: &mut Vec<u8>, status: &Status) -> Result<(), NoMemory>
         Status::BadSettings(fault) => put_bad_settings(out, *fault),
         Status::BadClasses(fault) => put_bad_classes(out, *fault),
         Status::BadSource(fault) => put_bad_source(out, *fault),
+        Status::BadEdits(fault) => put_bad_edits(out, *fault),
         Status::ReadFault(name) => put_words(
             out,
             &[
@@ -116,6 +120,7 @@ impl Status {
             Status::BadSettings(_) => 5,
             Status::BadClasses(_) => 6,
             Status::BadSource(_) => 7,
+            Status::BadEdits(_) => 8,
             Status::ReadFault(_) => 10,
             Status::WriteFault(_) => 11,
             Status::Missing(_) => 12,

@@ -20,7 +20,7 @@ use Rattle.sut_run.proofs.balancing.run_balance.Goals as goal
 
 pub returns-in-Err-clause-input : goal.returns-in-Err-clause-input
 returns-in-Err-clause-input g c =
-    let P : Status → Type 0 = λ s. IfSome (g.F.Shelf.files c.args.shelf.now) (λ (files : Files). AnswersInput Balance files s) in subst P (sym c.refused.ensures) (refused-answers (g.F.Shelf.files c.args.shelf.now) c.in-Err.fault c.in-Err.ensures.err)
+    let P : Status → Type 0 = λ s. IfSome (g.F.Shelf.files c.args.shelf.now) (λ (files : Files). AnswersInput (map (λ b. new_seat ((g.dyn-1.0.entry b.vtable).1.name b.value) ((g.dyn-1.0.entry b.vtable).1.rule b.value)) c.args.reviewers.items) Balance files s) in subst P (sym c.refused.ensures) (refused-answers (map (λ b. new_seat ((g.dyn-1.0.entry b.vtable).1.name b.value) ((g.dyn-1.0.entry b.vtable).1.rule b.value)) c.args.reviewers.items) (g.F.Shelf.files c.args.shelf.now) c.in-Err.fault c.in-Err.ensures.err)
 
 pub returns-in-Err-clause-stands : goal.returns-in-Err-clause-stands
 returns-in-Err-clause-stands g c =
@@ -60,13 +60,13 @@ returns-in-Err-prepare-clause-stands g c =
 
 pub returns-in-Ok-deliver-clause-input : goal.returns-in-Ok-deliver-clause-input
 returns-in-Ok-deliver-clause-input g c =
-    done-answers Balance (to_balance c.in-Ok.input.settings c.in-Ok.input.problem) c.in-Ok-prepare.prepared.done (answer-done c.in-Ok-prepare.ensures.answer c.in-Ok-prepare.prepared.done c.in-Ok-prepare.ensures.ends) (g.F.Shelf.files c.args.shelf.now) (given-told c.in-Ok.input.settings c.in-Ok.input.problem (g.F.Shelf.files c.args.shelf.now) c.in-Ok.ensures.ok)
+    done-answers (map (λ b. new_seat ((g.dyn-1.0.entry b.vtable).1.name b.value) ((g.dyn-1.0.entry b.vtable).1.rule b.value)) c.args.reviewers.items) Balance (to_balance c.in-Ok.input.settings c.in-Ok.input.problem) c.in-Ok-prepare.prepared.done (answer-done c.in-Ok-prepare.ensures.answer c.in-Ok-prepare.prepared.done c.in-Ok-prepare.ensures.ends) (g.F.Shelf.files c.args.shelf.now) (given-told (map (λ b. new_seat ((g.dyn-1.0.entry b.vtable).1.name b.value) ((g.dyn-1.0.entry b.vtable).1.rule b.value)) c.args.reviewers.items) c.in-Ok.input.settings c.in-Ok.input.problem (g.F.Shelf.files c.args.shelf.now) c.in-Ok.ensures.ok)
 
 pub returns-in-Ok-deliver-clause-stands : goal.returns-in-Ok-deliver-clause-stands
 returns-in-Ok-deliver-clause-stands g c =
-    told_then (λ (old now : Files). SameFiles old now × (input_of Balance None old ≡ Ok (to_balance c.in-Ok.input.settings c.in-Ok.input.problem))) (λ (now new : Files). Delivered (texts_in c.in-Ok-prepare.prepared.made.outputs.items) c.in-Ok-prepare.prepared.made.lines.items {T = Unit {0}} (Ok tt) now new (g.K.Sink.sent c.args.out.now) (g.K.Sink.sent c.deliver.new.out)) (Stands (map (λ b. new_seat ((g.dyn-1.0.entry b.vtable).1.name b.value) ((g.dyn-1.0.entry b.vtable).1.rule b.value)) c.args.reviewers.items) Balance c.in-Ok-prepare.prepared.done (g.K.Sink.sent c.args.out.now) (g.K.Sink.sent c.deliver.new.out))
+    told_then (λ (old now : Files). SameFiles old now × (input_of (map (λ b. new_seat ((g.dyn-1.0.entry b.vtable).1.name b.value) ((g.dyn-1.0.entry b.vtable).1.rule b.value)) c.args.reviewers.items) Balance None old ≡ Ok (to_balance c.in-Ok.input.settings c.in-Ok.input.problem))) (λ (now new : Files). Delivered (texts_in c.in-Ok-prepare.prepared.made.outputs.items) c.in-Ok-prepare.prepared.made.lines.items {T = Unit {0}} (Ok tt) now new (g.K.Sink.sent c.args.out.now) (g.K.Sink.sent c.deliver.new.out)) (Stands (map (λ b. new_seat ((g.dyn-1.0.entry b.vtable).1.name b.value) ((g.dyn-1.0.entry b.vtable).1.rule b.value)) c.args.reviewers.items) Balance c.in-Ok-prepare.prepared.done (g.K.Sink.sent c.args.out.now) (g.K.Sink.sent c.deliver.new.out))
     (λ old now new read w. done-stands (map (λ b. new_seat ((g.dyn-1.0.entry b.vtable).1.name b.value) ((g.dyn-1.0.entry b.vtable).1.rule b.value)) c.args.reviewers.items) Balance (to_balance c.in-Ok.input.settings c.in-Ok.input.problem) c.in-Ok-prepare.prepared.done (record { texts = texts_in c.in-Ok-prepare.prepared.made.outputs.items; lines = c.in-Ok-prepare.prepared.made.lines.items }) (gives-answer (map (λ b. new_seat ((g.dyn-1.0.entry b.vtable).1.name b.value) ((g.dyn-1.0.entry b.vtable).1.rule b.value)) c.args.reviewers.items) c.in-Ok.input.problem c.in-Ok-prepare.prepared.done (texts_in c.in-Ok-prepare.prepared.made.outputs.items) c.in-Ok-prepare.prepared.made.lines.items c.in-Ok-prepare.ensures) (answer-done c.in-Ok-prepare.ensures.answer c.in-Ok-prepare.prepared.done c.in-Ok-prepare.ensures.ends) (g.K.Sink.sent c.args.out.now) (g.K.Sink.sent c.deliver.new.out) old now new read.0 read.1 w)
-    _ _ _ (told_with SameFiles (λ (files : Files). input_of Balance None files ≡ Ok (to_balance c.in-Ok.input.settings c.in-Ok.input.problem)) _ _ c.read_problem.ensures.kept (given-told c.in-Ok.input.settings c.in-Ok.input.problem (g.F.Shelf.files c.args.shelf.now) c.in-Ok.ensures.ok)) c.in-Ok-deliver.ensures.stands
+    _ _ _ (told_with SameFiles (λ (files : Files). input_of (map (λ b. new_seat ((g.dyn-1.0.entry b.vtable).1.name b.value) ((g.dyn-1.0.entry b.vtable).1.rule b.value)) c.args.reviewers.items) Balance None files ≡ Ok (to_balance c.in-Ok.input.settings c.in-Ok.input.problem)) _ _ c.read_problem.ensures.kept (given-told (map (λ b. new_seat ((g.dyn-1.0.entry b.vtable).1.name b.value) ((g.dyn-1.0.entry b.vtable).1.rule b.value)) c.args.reviewers.items) c.in-Ok.input.settings c.in-Ok.input.problem (g.F.Shelf.files c.args.shelf.now) c.in-Ok.ensures.ok)) c.in-Ok-deliver.ensures.stands
 
 pub returns-in-Ok-deliver-clause-read_fault : goal.returns-in-Ok-deliver-clause-read_fault
 returns-in-Ok-deliver-clause-read_fault g c = done-reads c.in-Ok-prepare.prepared.done (answer-done c.in-Ok-prepare.ensures.answer c.in-Ok-prepare.prepared.done c.in-Ok-prepare.ensures.ends) _
@@ -90,13 +90,13 @@ returns-in-Ok-deliver-clause-infeasible g c e =
 
 pub returns-clause-input : goal.returns-clause-input
 returns-clause-input g c =
-    failed-answers Balance (to_balance c.in-Ok.input.settings c.in-Ok.input.problem) (map (λ (output : Output). output.name) c.in-Ok-prepare.prepared.made.outputs.items) c.in-Err-deliver.stopped c.in-Err-deliver.ensures.stops (g.F.Shelf.files c.args.shelf.now) (given-told c.in-Ok.input.settings c.in-Ok.input.problem (g.F.Shelf.files c.args.shelf.now) c.in-Ok.ensures.ok)
+    failed-answers (map (λ b. new_seat ((g.dyn-1.0.entry b.vtable).1.name b.value) ((g.dyn-1.0.entry b.vtable).1.rule b.value)) c.args.reviewers.items) Balance (to_balance c.in-Ok.input.settings c.in-Ok.input.problem) (map (λ (output : Output). output.name) c.in-Ok-prepare.prepared.made.outputs.items) c.in-Err-deliver.stopped c.in-Err-deliver.ensures.stops (g.F.Shelf.files c.args.shelf.now) (given-told (map (λ b. new_seat ((g.dyn-1.0.entry b.vtable).1.name b.value) ((g.dyn-1.0.entry b.vtable).1.rule b.value)) c.args.reviewers.items) c.in-Ok.input.settings c.in-Ok.input.problem (g.F.Shelf.files c.args.shelf.now) c.in-Ok.ensures.ok)
 
 pub returns-clause-stands : goal.returns-clause-stands
 returns-clause-stands g c =
-    told_then (λ (old now : Files). SameFiles old now × (input_of Balance None old ≡ Ok (to_balance c.in-Ok.input.settings c.in-Ok.input.problem))) (λ (now new : Files). Delivered (texts_in c.in-Ok-prepare.prepared.made.outputs.items) c.in-Ok-prepare.prepared.made.lines.items {T = Unit {0}} (Err c.in-Err-deliver.stopped) now new (g.K.Sink.sent c.args.out.now) (g.K.Sink.sent c.deliver.new.out)) (Stands (map (λ b. new_seat ((g.dyn-1.0.entry b.vtable).1.name b.value) ((g.dyn-1.0.entry b.vtable).1.rule b.value)) c.args.reviewers.items) Balance c.in-Err-deliver.stopped (g.K.Sink.sent c.args.out.now) (g.K.Sink.sent c.deliver.new.out))
+    told_then (λ (old now : Files). SameFiles old now × (input_of (map (λ b. new_seat ((g.dyn-1.0.entry b.vtable).1.name b.value) ((g.dyn-1.0.entry b.vtable).1.rule b.value)) c.args.reviewers.items) Balance None old ≡ Ok (to_balance c.in-Ok.input.settings c.in-Ok.input.problem))) (λ (now new : Files). Delivered (texts_in c.in-Ok-prepare.prepared.made.outputs.items) c.in-Ok-prepare.prepared.made.lines.items {T = Unit {0}} (Err c.in-Err-deliver.stopped) now new (g.K.Sink.sent c.args.out.now) (g.K.Sink.sent c.deliver.new.out)) (Stands (map (λ b. new_seat ((g.dyn-1.0.entry b.vtable).1.name b.value) ((g.dyn-1.0.entry b.vtable).1.rule b.value)) c.args.reviewers.items) Balance c.in-Err-deliver.stopped (g.K.Sink.sent c.args.out.now) (g.K.Sink.sent c.deliver.new.out))
     (λ old now new read w. failed-stands (map (λ b. new_seat ((g.dyn-1.0.entry b.vtable).1.name b.value) ((g.dyn-1.0.entry b.vtable).1.rule b.value)) c.args.reviewers.items) Balance (to_balance c.in-Ok.input.settings c.in-Ok.input.problem) c.in-Ok-prepare.prepared.done (record { texts = texts_in c.in-Ok-prepare.prepared.made.outputs.items; lines = c.in-Ok-prepare.prepared.made.lines.items }) (gives-answer (map (λ b. new_seat ((g.dyn-1.0.entry b.vtable).1.name b.value) ((g.dyn-1.0.entry b.vtable).1.rule b.value)) c.args.reviewers.items) c.in-Ok.input.problem c.in-Ok-prepare.prepared.done (texts_in c.in-Ok-prepare.prepared.made.outputs.items) c.in-Ok-prepare.prepared.made.lines.items c.in-Ok-prepare.ensures) (map (λ (output : Output). output.name) c.in-Ok-prepare.prepared.made.outputs.items) c.in-Err-deliver.stopped c.in-Err-deliver.ensures.stops (g.K.Sink.sent c.args.out.now) (g.K.Sink.sent c.deliver.new.out) old now new read.0 read.1 w)
-    _ _ _ (told_with SameFiles (λ (files : Files). input_of Balance None files ≡ Ok (to_balance c.in-Ok.input.settings c.in-Ok.input.problem)) _ _ c.read_problem.ensures.kept (given-told c.in-Ok.input.settings c.in-Ok.input.problem (g.F.Shelf.files c.args.shelf.now) c.in-Ok.ensures.ok)) c.in-Err-deliver.ensures.stands
+    _ _ _ (told_with SameFiles (λ (files : Files). input_of (map (λ b. new_seat ((g.dyn-1.0.entry b.vtable).1.name b.value) ((g.dyn-1.0.entry b.vtable).1.rule b.value)) c.args.reviewers.items) Balance None files ≡ Ok (to_balance c.in-Ok.input.settings c.in-Ok.input.problem)) _ _ c.read_problem.ensures.kept (given-told (map (λ b. new_seat ((g.dyn-1.0.entry b.vtable).1.name b.value) ((g.dyn-1.0.entry b.vtable).1.rule b.value)) c.args.reviewers.items) c.in-Ok.input.settings c.in-Ok.input.problem (g.F.Shelf.files c.args.shelf.now) c.in-Ok.ensures.ok)) c.in-Err-deliver.ensures.stands
 
 pub returns-clause-read_fault : goal.returns-clause-read_fault
 returns-clause-read_fault g c = failed-reads (map (λ (output : Output). output.name) c.in-Ok-prepare.prepared.made.outputs.items) c.in-Err-deliver.stopped c.in-Err-deliver.ensures.stops _

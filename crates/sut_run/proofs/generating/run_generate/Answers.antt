@@ -16,7 +16,7 @@ use Rattle.sut_run.proofs.generating.run_generate.Goals as goal
 
 pub returns-in-Err-clause-input : goal.returns-in-Err-clause-input
 returns-in-Err-clause-input g c =
-    whatever (g.F.Shelf.files c.args.shelf.now)
+    λ (seats : List SeatFacts). whatever (g.F.Shelf.files c.args.shelf.now)
 
 pub returns-in-Err-clause-stands : goal.returns-in-Err-clause-stands
 returns-in-Err-clause-stands g c =
@@ -24,7 +24,7 @@ returns-in-Err-clause-stands g c =
 
 pub returns-in-Ok-deliver-clause-input : goal.returns-in-Ok-deliver-clause-input
 returns-in-Ok-deliver-clause-input g c =
-    done-answers (Generate c.args.seed c.args.products c.args.industries) (to_generate c.args.seed c.args.products c.args.industries) Generated tt (g.F.Shelf.files c.args.shelf.now) (given-made c.args.seed c.args.products c.args.industries (g.F.Shelf.files c.args.shelf.now))
+    λ (seats : List SeatFacts). done-answers seats (Generate c.args.seed c.args.products c.args.industries) (to_generate c.args.seed c.args.products c.args.industries) Generated tt (g.F.Shelf.files c.args.shelf.now) (given-made seats c.args.seed c.args.products c.args.industries (g.F.Shelf.files c.args.shelf.now))
 
 pub returns-in-Ok-deliver-clause-stands : goal.returns-in-Ok-deliver-clause-stands
 returns-in-Ok-deliver-clause-stands g c =
@@ -33,7 +33,7 @@ returns-in-Ok-deliver-clause-stands g c =
 
 pub returns-clause-input : goal.returns-clause-input
 returns-clause-input g c =
-    failed-answers (Generate c.args.seed c.args.products c.args.industries) (to_generate c.args.seed c.args.products c.args.industries) (map (λ (output : Output). output.name) c.in-Ok.made.outputs.items) c.in-Err-deliver.stopped c.in-Err-deliver.ensures.stops (g.F.Shelf.files c.args.shelf.now) (given-made c.args.seed c.args.products c.args.industries (g.F.Shelf.files c.args.shelf.now))
+    λ (seats : List SeatFacts). failed-answers seats (Generate c.args.seed c.args.products c.args.industries) (to_generate c.args.seed c.args.products c.args.industries) (map (λ (output : Output). output.name) c.in-Ok.made.outputs.items) c.in-Err-deliver.stopped c.in-Err-deliver.ensures.stops (g.F.Shelf.files c.args.shelf.now) (given-made seats c.args.seed c.args.products c.args.industries (g.F.Shelf.files c.args.shelf.now))
 
 pub returns-clause-stands : goal.returns-clause-stands
 returns-clause-stands g c =

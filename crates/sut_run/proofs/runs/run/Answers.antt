@@ -5,7 +5,7 @@ use Rattle.sut_outside.specs.Causes.{Rose}
 use Rattle.sut_status.specs.declared.statuses.Status.TheVariants.{Balanced, Infeasible, NoMemory, Usage}
 use Rattle.sut_review.specs.Seats.{new_seat}
 use Rattle.sut_run.specs.declared.commands.Command.{Command}
-use Rattle.sut_run.specs.declared.commands.Command.TheVariants.{Balance, Generate}
+use Rattle.sut_run.specs.declared.commands.Command.TheVariants.{Balance, Edit, Generate}
 use Rattle.sut_run.specs.Commands.{command_of}
 use Rattle.sut_run.specs.Inputs.{input_of}
 use Rattle.sut_run.specs.Ends.{AnswersInput, IsDone, Stands}
@@ -28,7 +28,7 @@ returns-in-Some-Balance-clause-unused g c e =
 
 pub returns-in-Some-Balance-clause-input : goal.returns-in-Some-Balance-clause-input
 returns-in-Some-Balance-clause-input g c =
-    for-command (command_of (map string_bytes c.args.words.now)) Balance (sym c.command_named.ensures ∙ c.in-Some-Balance.is ∙ ap Some c.in-Some-Balance.field-0-is) (λ (k : Command). IfSome (g.F.Shelf.files c.args.shelf.now) (λ (files : Files). AnswersInput k files c.run_balance.result)) c.run_balance.ensures.input
+    for-command (command_of (map string_bytes c.args.words.now)) Balance (sym c.command_named.ensures ∙ c.in-Some-Balance.is ∙ ap Some c.in-Some-Balance.field-0-is) (λ (k : Command). IfSome (g.F.Shelf.files c.args.shelf.now) (λ (files : Files). AnswersInput (map (λ b. new_seat ((g.dyn-1.0.entry b.vtable).1.name b.value) ((g.dyn-1.0.entry b.vtable).1.rule b.value)) c.args.reviewers.items) k files c.run_balance.result)) c.run_balance.ensures.input
 
 pub returns-in-Some-Balance-clause-stands : goal.returns-in-Some-Balance-clause-stands
 returns-in-Some-Balance-clause-stands g c =
@@ -44,16 +44,53 @@ returns-in-Some-Balance-clause-write_fault g c =
 
 pub returns-in-Some-Balance-clause-complete : goal.returns-in-Some-Balance-clause-complete
 returns-in-Some-Balance-clause-complete g c =
-    for-command (command_of (map string_bytes c.args.words.now)) Balance (sym c.command_named.ensures ∙ c.in-Some-Balance.is ∙ ap Some c.in-Some-Balance.field-0-is) (λ (k : Command). IfSome (g.F.Shelf.files c.args.shelf.now) (λ (files : Files). IsOk (input_of k None files) → ¬ Rose (g.F.Shelf.faults c.args.shelf.now) (g.F.Shelf.faults c.run_balance.new.shelf) → ¬ Rose (g.K.Sink.faults c.args.out.now) (g.K.Sink.faults c.run_balance.new.out) → (c.run_balance.result ≡ NoMemory) ⊎ IsDone c.run_balance.result))
-    (complete-told Balance (g.F.Shelf.files c.args.shelf.now) c.run_balance.result _ _ _ c.run_balance.ensures.input c.run_balance.ensures.read_fault c.run_balance.ensures.write_fault c.run_balance.ensures.sink_fault)
+    for-command (command_of (map string_bytes c.args.words.now)) Balance (sym c.command_named.ensures ∙ c.in-Some-Balance.is ∙ ap Some c.in-Some-Balance.field-0-is) (λ (k : Command). IfSome (g.F.Shelf.files c.args.shelf.now) (λ (files : Files). IsOk (input_of (map (λ b. new_seat ((g.dyn-1.0.entry b.vtable).1.name b.value) ((g.dyn-1.0.entry b.vtable).1.rule b.value)) c.args.reviewers.items) k None files) → ¬ Rose (g.F.Shelf.faults c.args.shelf.now) (g.F.Shelf.faults c.run_balance.new.shelf) → ¬ Rose (g.K.Sink.faults c.args.out.now) (g.K.Sink.faults c.run_balance.new.out) → (c.run_balance.result ≡ NoMemory) ⊎ IsDone c.run_balance.result))
+    (complete-told (map (λ b. new_seat ((g.dyn-1.0.entry b.vtable).1.name b.value) ((g.dyn-1.0.entry b.vtable).1.rule b.value)) c.args.reviewers.items) Balance (g.F.Shelf.files c.args.shelf.now) c.run_balance.result _ _ _ c.run_balance.ensures.input c.run_balance.ensures.read_fault c.run_balance.ensures.write_fault c.run_balance.ensures.sink_fault)
 
 pub returns-in-Some-Balance-clause-balanced : goal.returns-in-Some-Balance-clause-balanced
 returns-in-Some-Balance-clause-balanced g c =
-    for-command (command_of (map string_bytes c.args.words.now)) Balance (sym c.command_named.ensures ∙ c.in-Some-Balance.is ∙ ap Some c.in-Some-Balance.field-0-is) (λ (k : Command). c.run_balance.result ≡ Balanced → IsChecked k × Told (g.F.Shelf.files c.args.shelf.now) (g.F.Shelf.files c.run_balance.new.shelf) (Headline k WritesLeast)) (λ e. (tt, c.run_balance.ensures.balanced e))
+    for-command (command_of (map string_bytes c.args.words.now)) Balance (sym c.command_named.ensures ∙ c.in-Some-Balance.is ∙ ap Some c.in-Some-Balance.field-0-is) (λ (k : Command). c.run_balance.result ≡ Balanced → IsChecked k × Told (g.F.Shelf.files c.args.shelf.now) (g.F.Shelf.files c.run_balance.new.shelf) (Headline (map (λ b. new_seat ((g.dyn-1.0.entry b.vtable).1.name b.value) ((g.dyn-1.0.entry b.vtable).1.rule b.value)) c.args.reviewers.items) k WritesLeast)) (λ e. (tt, c.run_balance.ensures.balanced e))
 
 pub returns-in-Some-Balance-clause-infeasible : goal.returns-in-Some-Balance-clause-infeasible
 returns-in-Some-Balance-clause-infeasible g c =
-    for-command (command_of (map string_bytes c.args.words.now)) Balance (sym c.command_named.ensures ∙ c.in-Some-Balance.is ∙ ap Some c.in-Some-Balance.field-0-is) (λ (k : Command). c.run_balance.result ≡ Infeasible → IsChecked k × Told (g.F.Shelf.files c.args.shelf.now) (g.F.Shelf.files c.run_balance.new.shelf) (Headline k WritesCut)) (λ e. (tt, c.run_balance.ensures.infeasible e))
+    for-command (command_of (map string_bytes c.args.words.now)) Balance (sym c.command_named.ensures ∙ c.in-Some-Balance.is ∙ ap Some c.in-Some-Balance.field-0-is) (λ (k : Command). c.run_balance.result ≡ Infeasible → IsChecked k × Told (g.F.Shelf.files c.args.shelf.now) (g.F.Shelf.files c.run_balance.new.shelf) (Headline (map (λ b. new_seat ((g.dyn-1.0.entry b.vtable).1.name b.value) ((g.dyn-1.0.entry b.vtable).1.rule b.value)) c.args.reviewers.items) k WritesCut)) (λ e. (tt, c.run_balance.ensures.infeasible e))
+
+pub returns-in-Some-Edit-clause-usage : goal.returns-in-Some-Edit-clause-usage
+returns-in-Some-Edit-clause-usage g c =
+    ((λ e. absurd (c.run_edit.ensures.used e)), (λ e. absurd (some-command (command_of (map string_bytes c.args.words.now)) Edit (sym c.command_named.ensures ∙ c.in-Some-Edit.is ∙ ap Some c.in-Some-Edit.field-0-is) e)))
+
+pub returns-in-Some-Edit-clause-unused : goal.returns-in-Some-Edit-clause-unused
+returns-in-Some-Edit-clause-unused g c e =
+    absurd (some-command (command_of (map string_bytes c.args.words.now)) Edit (sym c.command_named.ensures ∙ c.in-Some-Edit.is ∙ ap Some c.in-Some-Edit.field-0-is) e)
+
+pub returns-in-Some-Edit-clause-input : goal.returns-in-Some-Edit-clause-input
+returns-in-Some-Edit-clause-input g c =
+    for-command (command_of (map string_bytes c.args.words.now)) Edit (sym c.command_named.ensures ∙ c.in-Some-Edit.is ∙ ap Some c.in-Some-Edit.field-0-is) (λ (k : Command). IfSome (g.F.Shelf.files c.args.shelf.now) (λ (files : Files). AnswersInput (map (λ b. new_seat ((g.dyn-1.0.entry b.vtable).1.name b.value) ((g.dyn-1.0.entry b.vtable).1.rule b.value)) c.args.reviewers.items) k files c.run_edit.result)) c.run_edit.ensures.input
+
+pub returns-in-Some-Edit-clause-stands : goal.returns-in-Some-Edit-clause-stands
+returns-in-Some-Edit-clause-stands g c =
+    for-command (command_of (map string_bytes c.args.words.now)) Edit (sym c.command_named.ensures ∙ c.in-Some-Edit.is ∙ ap Some c.in-Some-Edit.field-0-is) (λ (k : Command). Told (g.F.Shelf.files c.args.shelf.now) (g.F.Shelf.files c.run_edit.new.shelf) (Stands (map (λ b. new_seat ((g.dyn-1.0.entry b.vtable).1.name b.value) ((g.dyn-1.0.entry b.vtable).1.rule b.value)) c.args.reviewers.items) k c.run_edit.result (g.K.Sink.sent c.args.out.now) (g.K.Sink.sent c.run_edit.new.out))) c.run_edit.ensures.stands
+
+pub returns-in-Some-Edit-clause-read_fault : goal.returns-in-Some-Edit-clause-read_fault
+returns-in-Some-Edit-clause-read_fault g c =
+    read-names (command_of (map string_bytes c.args.words.now)) Edit (sym c.command_named.ensures ∙ c.in-Some-Edit.is ∙ ap Some c.in-Some-Edit.field-0-is) c.run_edit.result _ _ _ c.run_edit.ensures.read_fault
+
+pub returns-in-Some-Edit-clause-write_fault : goal.returns-in-Some-Edit-clause-write_fault
+returns-in-Some-Edit-clause-write_fault g c =
+    write-names (command_of (map string_bytes c.args.words.now)) Edit (sym c.command_named.ensures ∙ c.in-Some-Edit.is ∙ ap Some c.in-Some-Edit.field-0-is) c.run_edit.result _ _ _ c.run_edit.ensures.write_fault
+
+pub returns-in-Some-Edit-clause-complete : goal.returns-in-Some-Edit-clause-complete
+returns-in-Some-Edit-clause-complete g c =
+    for-command (command_of (map string_bytes c.args.words.now)) Edit (sym c.command_named.ensures ∙ c.in-Some-Edit.is ∙ ap Some c.in-Some-Edit.field-0-is) (λ (k : Command). IfSome (g.F.Shelf.files c.args.shelf.now) (λ (files : Files). IsOk (input_of (map (λ b. new_seat ((g.dyn-1.0.entry b.vtable).1.name b.value) ((g.dyn-1.0.entry b.vtable).1.rule b.value)) c.args.reviewers.items) k None files) → ¬ Rose (g.F.Shelf.faults c.args.shelf.now) (g.F.Shelf.faults c.run_edit.new.shelf) → ¬ Rose (g.K.Sink.faults c.args.out.now) (g.K.Sink.faults c.run_edit.new.out) → (c.run_edit.result ≡ NoMemory) ⊎ IsDone c.run_edit.result))
+    (complete-told (map (λ b. new_seat ((g.dyn-1.0.entry b.vtable).1.name b.value) ((g.dyn-1.0.entry b.vtable).1.rule b.value)) c.args.reviewers.items) Edit (g.F.Shelf.files c.args.shelf.now) c.run_edit.result _ _ _ c.run_edit.ensures.input c.run_edit.ensures.read_fault c.run_edit.ensures.write_fault c.run_edit.ensures.sink_fault)
+
+pub returns-in-Some-Edit-clause-balanced : goal.returns-in-Some-Edit-clause-balanced
+returns-in-Some-Edit-clause-balanced g c =
+    for-command (command_of (map string_bytes c.args.words.now)) Edit (sym c.command_named.ensures ∙ c.in-Some-Edit.is ∙ ap Some c.in-Some-Edit.field-0-is) (λ (k : Command). c.run_edit.result ≡ Balanced → IsChecked k × Told (g.F.Shelf.files c.args.shelf.now) (g.F.Shelf.files c.run_edit.new.shelf) (Headline (map (λ b. new_seat ((g.dyn-1.0.entry b.vtable).1.name b.value) ((g.dyn-1.0.entry b.vtable).1.rule b.value)) c.args.reviewers.items) k WritesLeast)) (λ e. (tt, c.run_edit.ensures.balanced e))
+
+pub returns-in-Some-Edit-clause-infeasible : goal.returns-in-Some-Edit-clause-infeasible
+returns-in-Some-Edit-clause-infeasible g c =
+    for-command (command_of (map string_bytes c.args.words.now)) Edit (sym c.command_named.ensures ∙ c.in-Some-Edit.is ∙ ap Some c.in-Some-Edit.field-0-is) (λ (k : Command). c.run_edit.result ≡ Infeasible → IsChecked k × Told (g.F.Shelf.files c.args.shelf.now) (g.F.Shelf.files c.run_edit.new.shelf) (Headline (map (λ b. new_seat ((g.dyn-1.0.entry b.vtable).1.name b.value) ((g.dyn-1.0.entry b.vtable).1.rule b.value)) c.args.reviewers.items) k WritesCut)) (λ e. (tt, c.run_edit.ensures.infeasible e))
 
 pub returns-in-Some-Generate-clause-usage : goal.returns-in-Some-Generate-clause-usage
 returns-in-Some-Generate-clause-usage g c =
@@ -65,7 +102,7 @@ returns-in-Some-Generate-clause-unused g c e =
 
 pub returns-in-Some-Generate-clause-input : goal.returns-in-Some-Generate-clause-input
 returns-in-Some-Generate-clause-input g c =
-    for-command (command_of (map string_bytes c.args.words.now)) (Generate c.in-Some-Generate.seed c.in-Some-Generate.products c.in-Some-Generate.industries) (sym c.command_named.ensures ∙ c.in-Some-Generate.is ∙ ap Some c.in-Some-Generate.field-0-is) (λ (k : Command). IfSome (g.F.Shelf.files c.args.shelf.now) (λ (files : Files). AnswersInput k files c.run_generate.result)) c.run_generate.ensures.input
+    for-command (command_of (map string_bytes c.args.words.now)) (Generate c.in-Some-Generate.seed c.in-Some-Generate.products c.in-Some-Generate.industries) (sym c.command_named.ensures ∙ c.in-Some-Generate.is ∙ ap Some c.in-Some-Generate.field-0-is) (λ (k : Command). IfSome (g.F.Shelf.files c.args.shelf.now) (λ (files : Files). AnswersInput (map (λ b. new_seat ((g.dyn-1.0.entry b.vtable).1.name b.value) ((g.dyn-1.0.entry b.vtable).1.rule b.value)) c.args.reviewers.items) k files c.run_generate.result)) (c.run_generate.ensures.input (map (λ b. new_seat ((g.dyn-1.0.entry b.vtable).1.name b.value) ((g.dyn-1.0.entry b.vtable).1.rule b.value)) c.args.reviewers.items))
 
 pub returns-in-Some-Generate-clause-stands : goal.returns-in-Some-Generate-clause-stands
 returns-in-Some-Generate-clause-stands g c =
@@ -81,16 +118,16 @@ returns-in-Some-Generate-clause-write_fault g c =
 
 pub returns-in-Some-Generate-clause-complete : goal.returns-in-Some-Generate-clause-complete
 returns-in-Some-Generate-clause-complete g c =
-    for-command (command_of (map string_bytes c.args.words.now)) (Generate c.in-Some-Generate.seed c.in-Some-Generate.products c.in-Some-Generate.industries) (sym c.command_named.ensures ∙ c.in-Some-Generate.is ∙ ap Some c.in-Some-Generate.field-0-is) (λ (k : Command). IfSome (g.F.Shelf.files c.args.shelf.now) (λ (files : Files). IsOk (input_of k None files) → ¬ Rose (g.F.Shelf.faults c.args.shelf.now) (g.F.Shelf.faults c.run_generate.new.shelf) → ¬ Rose (g.K.Sink.faults c.args.out.now) (g.K.Sink.faults c.run_generate.new.out) → (c.run_generate.result ≡ NoMemory) ⊎ IsDone c.run_generate.result))
-    (complete-told (Generate c.in-Some-Generate.seed c.in-Some-Generate.products c.in-Some-Generate.industries) (g.F.Shelf.files c.args.shelf.now) c.run_generate.result _ _ _ c.run_generate.ensures.input c.run_generate.ensures.read_fault c.run_generate.ensures.write_fault c.run_generate.ensures.sink_fault)
+    for-command (command_of (map string_bytes c.args.words.now)) (Generate c.in-Some-Generate.seed c.in-Some-Generate.products c.in-Some-Generate.industries) (sym c.command_named.ensures ∙ c.in-Some-Generate.is ∙ ap Some c.in-Some-Generate.field-0-is) (λ (k : Command). IfSome (g.F.Shelf.files c.args.shelf.now) (λ (files : Files). IsOk (input_of (map (λ b. new_seat ((g.dyn-1.0.entry b.vtable).1.name b.value) ((g.dyn-1.0.entry b.vtable).1.rule b.value)) c.args.reviewers.items) k None files) → ¬ Rose (g.F.Shelf.faults c.args.shelf.now) (g.F.Shelf.faults c.run_generate.new.shelf) → ¬ Rose (g.K.Sink.faults c.args.out.now) (g.K.Sink.faults c.run_generate.new.out) → (c.run_generate.result ≡ NoMemory) ⊎ IsDone c.run_generate.result))
+    (complete-told (map (λ b. new_seat ((g.dyn-1.0.entry b.vtable).1.name b.value) ((g.dyn-1.0.entry b.vtable).1.rule b.value)) c.args.reviewers.items) (Generate c.in-Some-Generate.seed c.in-Some-Generate.products c.in-Some-Generate.industries) (g.F.Shelf.files c.args.shelf.now) c.run_generate.result _ _ _ (c.run_generate.ensures.input (map (λ b. new_seat ((g.dyn-1.0.entry b.vtable).1.name b.value) ((g.dyn-1.0.entry b.vtable).1.rule b.value)) c.args.reviewers.items)) c.run_generate.ensures.read_fault c.run_generate.ensures.write_fault c.run_generate.ensures.sink_fault)
 
 pub returns-in-Some-Generate-clause-balanced : goal.returns-in-Some-Generate-clause-balanced
 returns-in-Some-Generate-clause-balanced g c =
-    for-command (command_of (map string_bytes c.args.words.now)) (Generate c.in-Some-Generate.seed c.in-Some-Generate.products c.in-Some-Generate.industries) (sym c.command_named.ensures ∙ c.in-Some-Generate.is ∙ ap Some c.in-Some-Generate.field-0-is) (λ (k : Command). c.run_generate.result ≡ Balanced → IsChecked k × Told (g.F.Shelf.files c.args.shelf.now) (g.F.Shelf.files c.run_generate.new.shelf) (Headline k WritesLeast)) (λ e. absurd (c.run_generate.ensures.balanced e))
+    for-command (command_of (map string_bytes c.args.words.now)) (Generate c.in-Some-Generate.seed c.in-Some-Generate.products c.in-Some-Generate.industries) (sym c.command_named.ensures ∙ c.in-Some-Generate.is ∙ ap Some c.in-Some-Generate.field-0-is) (λ (k : Command). c.run_generate.result ≡ Balanced → IsChecked k × Told (g.F.Shelf.files c.args.shelf.now) (g.F.Shelf.files c.run_generate.new.shelf) (Headline (map (λ b. new_seat ((g.dyn-1.0.entry b.vtable).1.name b.value) ((g.dyn-1.0.entry b.vtable).1.rule b.value)) c.args.reviewers.items) k WritesLeast)) (λ e. absurd (c.run_generate.ensures.balanced e))
 
 pub returns-in-Some-Generate-clause-infeasible : goal.returns-in-Some-Generate-clause-infeasible
 returns-in-Some-Generate-clause-infeasible g c =
-    for-command (command_of (map string_bytes c.args.words.now)) (Generate c.in-Some-Generate.seed c.in-Some-Generate.products c.in-Some-Generate.industries) (sym c.command_named.ensures ∙ c.in-Some-Generate.is ∙ ap Some c.in-Some-Generate.field-0-is) (λ (k : Command). c.run_generate.result ≡ Infeasible → IsChecked k × Told (g.F.Shelf.files c.args.shelf.now) (g.F.Shelf.files c.run_generate.new.shelf) (Headline k WritesCut)) (λ e. absurd (c.run_generate.ensures.infeasible e))
+    for-command (command_of (map string_bytes c.args.words.now)) (Generate c.in-Some-Generate.seed c.in-Some-Generate.products c.in-Some-Generate.industries) (sym c.command_named.ensures ∙ c.in-Some-Generate.is ∙ ap Some c.in-Some-Generate.field-0-is) (λ (k : Command). c.run_generate.result ≡ Infeasible → IsChecked k × Told (g.F.Shelf.files c.args.shelf.now) (g.F.Shelf.files c.run_generate.new.shelf) (Headline (map (λ b. new_seat ((g.dyn-1.0.entry b.vtable).1.name b.value) ((g.dyn-1.0.entry b.vtable).1.rule b.value)) c.args.reviewers.items) k WritesCut)) (λ e. absurd (c.run_generate.ensures.infeasible e))
 
 pub returns-in-None-clause-usage : goal.returns-in-None-clause-usage
 returns-in-None-clause-usage g c =
@@ -102,7 +139,7 @@ returns-in-None-clause-unused g c e =
 
 pub returns-in-None-clause-input : goal.returns-in-None-clause-input
 returns-in-None-clause-input g c =
-    subst (λ o. IfSome o (λ (k : Command). IfSome (g.F.Shelf.files c.args.shelf.now) (λ (files : Files). AnswersInput k files Usage))) (sym (sym c.command_named.ensures ∙ c.in-None.is)) tt
+    subst (λ o. IfSome o (λ (k : Command). IfSome (g.F.Shelf.files c.args.shelf.now) (λ (files : Files). AnswersInput (map (λ b. new_seat ((g.dyn-1.0.entry b.vtable).1.name b.value) ((g.dyn-1.0.entry b.vtable).1.rule b.value)) c.args.reviewers.items) k files Usage))) (sym (sym c.command_named.ensures ∙ c.in-None.is)) tt
 
 pub returns-in-None-clause-stands : goal.returns-in-None-clause-stands
 returns-in-None-clause-stands g c =
@@ -110,12 +147,12 @@ returns-in-None-clause-stands g c =
 
 pub returns-in-None-clause-complete : goal.returns-in-None-clause-complete
 returns-in-None-clause-complete g c =
-    subst (λ o. IfSome o (λ (k : Command). IfSome (g.F.Shelf.files c.args.shelf.now) (λ (files : Files). IsOk (input_of k None files) → ¬ Rose (g.F.Shelf.faults c.args.shelf.now) (g.F.Shelf.faults c.args.shelf.now) → ¬ Rose (g.K.Sink.faults c.args.out.now) (g.K.Sink.faults c.args.out.now) → (Usage ≡ NoMemory) ⊎ IsDone Usage))) (sym (sym c.command_named.ensures ∙ c.in-None.is)) tt
+    subst (λ o. IfSome o (λ (k : Command). IfSome (g.F.Shelf.files c.args.shelf.now) (λ (files : Files). IsOk (input_of (map (λ b. new_seat ((g.dyn-1.0.entry b.vtable).1.name b.value) ((g.dyn-1.0.entry b.vtable).1.rule b.value)) c.args.reviewers.items) k None files) → ¬ Rose (g.F.Shelf.faults c.args.shelf.now) (g.F.Shelf.faults c.args.shelf.now) → ¬ Rose (g.K.Sink.faults c.args.out.now) (g.K.Sink.faults c.args.out.now) → (Usage ≡ NoMemory) ⊎ IsDone Usage))) (sym (sym c.command_named.ensures ∙ c.in-None.is)) tt
 
 pub returns-in-None-clause-balanced : goal.returns-in-None-clause-balanced
 returns-in-None-clause-balanced g c =
-    subst (λ o. IfSome o (λ (k : Command). Usage ≡ Balanced → IsChecked k × Told (g.F.Shelf.files c.args.shelf.now) (g.F.Shelf.files c.args.shelf.now) (Headline k WritesLeast))) (sym (sym c.command_named.ensures ∙ c.in-None.is)) tt
+    subst (λ o. IfSome o (λ (k : Command). Usage ≡ Balanced → IsChecked k × Told (g.F.Shelf.files c.args.shelf.now) (g.F.Shelf.files c.args.shelf.now) (Headline (map (λ b. new_seat ((g.dyn-1.0.entry b.vtable).1.name b.value) ((g.dyn-1.0.entry b.vtable).1.rule b.value)) c.args.reviewers.items) k WritesLeast))) (sym (sym c.command_named.ensures ∙ c.in-None.is)) tt
 
 pub returns-in-None-clause-infeasible : goal.returns-in-None-clause-infeasible
 returns-in-None-clause-infeasible g c =
-    subst (λ o. IfSome o (λ (k : Command). Usage ≡ Infeasible → IsChecked k × Told (g.F.Shelf.files c.args.shelf.now) (g.F.Shelf.files c.args.shelf.now) (Headline k WritesCut))) (sym (sym c.command_named.ensures ∙ c.in-None.is)) tt
+    subst (λ o. IfSome o (λ (k : Command). Usage ≡ Infeasible → IsChecked k × Told (g.F.Shelf.files c.args.shelf.now) (g.F.Shelf.files c.args.shelf.now) (Headline (map (λ b. new_seat ((g.dyn-1.0.entry b.vtable).1.name b.value) ((g.dyn-1.0.entry b.vtable).1.rule b.value)) c.args.reviewers.items) k WritesCut))) (sym (sym c.command_named.ensures ∙ c.in-None.is)) tt

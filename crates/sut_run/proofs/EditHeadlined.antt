@@ -1,0 +1,198 @@
+-- What the written files of a run of edits say by themselves.
+use Rattle.std.proofs.Common.{◌≡◌, ◌≤◌, ◌∙◌, ℕ, ℤ, Bool, true, false, List, [], ◌∷◌, ◌++◌, Option, Some, None, Result, Ok, Err, IfSome, length, refl, sym, ap, subst}
+use Rattle.std.specs.Prelude.{IsTrue, if◌then◌else◌, nat_le}
+use Rattle.std.proofs.lemmas.Bool.{le-leb}
+use Rattle.sut_outside.specs.declared.names.FileName.{FileName}
+use Rattle.sut_outside.specs.declared.names.FileName.TheVariants.{SettingsToml, ClassesCsv, SourceCsv, EditedCsv, TrailCsv, BalancedCsv, CertificateCsv, ReviewCsv}
+use Rattle.sut_outside.specs.declared.shelf.TheConstants.{FILE_LIMIT}
+use Rattle.sut_outside.specs.Files.{Files, SameFiles, Told}
+use Rattle.sut_outside.proofs.Told.{told_then, told_with}
+use Rattle.sut_outside.specs.Deliveries.{WrittenAll, after_writes, same_name}
+use Rattle.sut_outside.specs.Entry.{bytes_or}
+use Rattle.sut_records.specs.FirstFault.{and_then, fault_as}
+use Rattle.sut_records.specs.RecordList.{Fields, records_of}
+use Rattle.sut_settings.specs.SettingsFacts.{SettingsFacts}
+use Rattle.sut_settings.specs.SettingsFile.{settings_of}
+use Rattle.sut_classes.specs.ClassLists.{ClassLists}
+use Rattle.sut_classes.specs.ClassFile.{classes_of}
+use Rattle.sut_source.specs.SourceFile.{problem_from, source_line, source_of, under_header}
+use Rattle.sut_source.specs.SourceText.{source_text}
+use Rattle.sut_source.specs.declared.faults.SourceFault.{SourceFault}
+use Rattle.sut_tables.specs.ProblemFacts.{ProblemFacts}
+use Rattle.sut_tables.proofs.OneGdp.{production-income, expenditure-income}
+use Rattle.sut_edits.specs.declared.edits.EditLine.{EditLine}
+use Rattle.sut_cert.specs.declared.answers.Answer.{Answer}
+use Rattle.sut_cert.specs.declared.answers.Answer.TheVariants as answer
+use Rattle.sut_cert.specs.declared.certificates.Certificate.TheVariants as certificate
+use Rattle.sut_cert.specs.CertificateFile.{certificate_of}
+use Rattle.sut_cert.specs.CertificateText.{certificate_text}
+use Rattle.sut_readback.specs.BalancedFile.{balanced_of}
+use Rattle.sut_readback.specs.BalancedText.{balanced_text}
+use Rattle.sut_input.specs.Inputs.{problem_in}
+use Rattle.sut_input.specs.EditInputs.{edit_input_in, edited_in, edits_in}
+use Rattle.sut_input.specs.declared.faults.InputFault.{InputFault}
+use Rattle.sut_input.specs.declared.faults.InputFault.TheVariants as fault
+use Rattle.sut_input.specs.declared.edits.EditInputFault.{EditInputFault}
+use Rattle.sut_input.specs.declared.edits.EditInputFault.TheVariants as edits
+use Rattle.sut_review.specs.Seats.{SeatFacts}
+use Rattle.sut_editing.specs.Moments.{Moments, moments_of, standing_labels}
+use Rattle.sut_editing.specs.Events.{IsAnswer}
+use Rattle.sut_editing.specs.Shown.{seats_after, trail_text}
+use Rattle.sut_editing.proofs.Finishing.{same-classes}
+use Rattle.sut_status.specs.declared.statuses.Status.{Status}
+use Rattle.sut_status.specs.declared.statuses.Status.TheVariants.{Balanced, Infeasible}
+use Rattle.sut_run.specs.declared.commands.Command.TheVariants.{Edit}
+use Rattle.sut_run.specs.Inputs.{input_of, to_edit}
+use Rattle.sut_run.specs.Deliveries.{ReadsBack, SpellsSource, answer_files, review_files, status_of}
+use Rattle.sut_run.specs.Prepared.{IsPreparedEdit}
+use Rattle.sut_run.specs.Headlines.{Headline, WritesCut, WritesLeast}
+use Rattle.sut_run.specs.Steps.{Delivered}
+use Rattle.sut_run.proofs.Headlined.{problem-by, problem_by, spelled, stands-at}
+
+-- ---- the rows after all edits, read back in the place of the source
+
+problem-of : (records : List Fields) (cs : ClassLists) (q : ProblemFacts) (under : Result (List Fields) SourceFault) (next : List Fields → Result ProblemFacts SourceFault) → ((lines : List Fields) (x : ProblemFacts) → next lines ≡ Ok x → x.classes ≡ cs) → and_then under next ≡ Ok q → q.classes ≡ cs
+problem-of records cs q (Ok lines) next each h = each lines q h
+problem-of records cs q (Err e) next each h = absurd cc
+
+rows-classes : {R : Type 0} (cs : ClassLists) (q : ProblemFacts) (r : Result R SourceFault) (make : R → ProblemFacts) → ((x : R) → (make x).classes ≡ cs) → and_then r (λ x. Ok (make x)) ≡ Ok q → q.classes ≡ cs
+rows-classes cs q (Ok x) make each h = let same : ◌≡◌ {A = Result ProblemFacts SourceFault} (Ok (make x)) (Ok q) = h in let equal : make x ≡ q = cc in subst (λ (y : ProblemFacts). y.classes ≡ cs) equal (each x)
+rows-classes cs q (Err e) make each h = absurd cc
+
+-- a source is of the classes under which it was read
+source-classes : (s : SettingsFacts) (cs : ClassLists) (bytes : List ℕ) (q : ProblemFacts) → source_of s cs bytes ≡ Ok q → q.classes ≡ cs
+source-classes s cs bytes q h = problem-of (records_of bytes) cs q (under_header (records_of bytes)) _ (λ lines x e. rows-classes cs x _ _ (λ rows. refl) e) h
+
+source-read : (s : SettingsFacts) (cs : ClassLists) (q : ProblemFacts) (r : Result ProblemFacts SourceFault) → fault_as fault.BadSource r ≡ Ok q → r ≡ Ok q
+source-read s cs q (Ok x) h = let same : ◌≡◌ {A = Result ProblemFacts InputFault} (Ok x) (Ok q) = h in let equal : x ≡ q = cc in ap (λ (y : ProblemFacts). Ok y) equal
+source-read s cs q (Err e) h = absurd cc
+
+held-classes : (s : SettingsFacts) (cs : ClassLists) (q : ProblemFacts) (held : Result (List ℕ) InputFault) → and_then held (λ bytes. fault_as fault.BadSource (source_of s cs bytes)) ≡ Ok q → q.classes ≡ cs
+held-classes s cs q (Ok bytes) h = source-classes s cs bytes q (source-read s cs q (source_of s cs bytes) h)
+held-classes s cs q (Err e) h = absurd cc
+
+-- three results in a row
+module _ (source : SettingsFacts → ClassLists → Result ProblemFacts InputFault) (s : SettingsFacts) (p : ProblemFacts) where
+  same-pair : (t : SettingsFacts) (q : ProblemFacts) → ◌≡◌ {A = Result (SettingsFacts × ProblemFacts) InputFault} (Ok (t, q)) (Ok (s, p)) → ◌≡◌ {A = SettingsFacts × ProblemFacts} (t, q) (s, p)
+  same-pair t q e = cc
+
+  third : (t : SettingsFacts) (cs : ClassLists) (r : Result ProblemFacts InputFault) → source t cs ≡ r → and_then r (λ q. Ok (t, q)) ≡ Ok (s, p) → (t ≡ s) × (source s cs ≡ Ok p)
+  third t cs (Ok q) is e =
+      let x = same-pair t q e in
+      let settings : t ≡ s = ap (λ (y : SettingsFacts × ProblemFacts). y.0) x in
+      (settings, subst (λ z. source z cs ≡ Ok p) settings (is ∙ ap (λ (y : SettingsFacts × ProblemFacts). Ok y.1) x))
+  third t cs (Err f) is e = absurd cc
+
+  second : (t : SettingsFacts) (b r : Result ClassLists InputFault) → b ≡ r → and_then r (λ cs. and_then (source t cs) (λ q. Ok (t, q))) ≡ Ok (s, p) → (cs : ClassLists) × (t ≡ s) × (b ≡ Ok cs) × (source s cs ≡ Ok p)
+  second t b (Ok cs) is e = let x = third t cs (source t cs) refl e in (cs, x.0, is, x.1)
+  second t b (Err f) is e = absurd cc
+
+  first : (a r : Result SettingsFacts InputFault) (b : Result ClassLists InputFault) → a ≡ r → and_then r (λ t. and_then b (λ cs. and_then (source t cs) (λ q. Ok (t, q)))) ≡ Ok (s, p)
+      → (cs : ClassLists) × (a ≡ Ok s) × (b ≡ Ok cs) × (source s cs ≡ Ok p)
+  first a (Ok t) b is e = let x = second t b b refl e in (x.0, is ∙ ap (λ (y : SettingsFacts). Ok y) x.1, x.2, x.3)
+  first a (Err f) b is e = absurd cc
+
+-- the text of the rows in the place of the source
+swapped : (settings classes source : Option (List ℕ)) (s : SettingsFacts) (p q : ProblemFacts) → problem_by SourceCsv settings classes source ≡ Ok (s, p) → q.classes ≡ p.classes → SpellsSource s q
+    → problem_by EditedCsv settings classes (Some (source_text s q)) ≡ Ok (s, q)
+unfolding problem_by
+swapped settings classes source s p q h kept spells =
+    let a = and_then (bytes_or (fault.Missing SettingsToml) (fault.TooLong SettingsToml) settings) (λ bytes. fault_as fault.BadSettings (settings_of bytes)) in
+    let b = and_then (bytes_or (fault.Missing ClassesCsv) (fault.TooLong ClassesCsv) classes) (λ bytes. fault_as fault.BadClasses (classes_of bytes)) in
+    let x = first (λ t cs. and_then (bytes_or (fault.Missing SourceCsv) (fault.TooLong SourceCsv) source) (λ bytes. fault_as fault.BadSource (source_of t cs bytes))) s p a a b refl h in
+    let same : q.classes ≡ x.0 = kept ∙ held-classes s x.0 p (bytes_or (fault.Missing SourceCsv) (fault.TooLong SourceCsv) source) x.3 in
+    let text = source_text s q in
+    let rows : ◌≡◌ {A = Result ProblemFacts InputFault} (and_then (bytes_or (fault.Missing EditedCsv) (fault.TooLong EditedCsv) (Some text)) (λ bytes. fault_as fault.BadSource (source_of s x.0 bytes))) (Ok q) =
+    ap (λ fits. and_then (if fits then Ok text else Err (fault.TooLong EditedCsv)) (λ bytes. fault_as fault.BadSource (source_of s x.0 bytes))) (le-leb (length text) FILE_LIMIT spells.short)
+    ∙ ap (fault_as fault.BadSource) (subst (λ cs. source_of s cs text ≡ Ok q) same spells.read)
+    in
+    ap (λ r. and_then r (λ t. and_then b (λ cs. and_then (and_then (bytes_or (fault.Missing EditedCsv) (fault.TooLong EditedCsv) (Some text)) (λ bytes. fault_as fault.BadSource (source_of t cs bytes))) (λ y. Ok (t, y))))) x.1
+    ∙ ap (λ r. and_then r (λ cs. and_then (and_then (bytes_or (fault.Missing EditedCsv) (fault.TooLong EditedCsv) (Some text)) (λ bytes. fault_as fault.BadSource (source_of s cs bytes))) (λ y. Ok (s, y)))) x.2
+    ∙ ap (λ r. and_then r (λ y. Ok (s, y))) rows
+
+rows-spelled : (old new : Files) (s : SettingsFacts) (p q : ProblemFacts) → problem_in SourceCsv None old ≡ Ok (s, p) → new SettingsToml ≡ old SettingsToml → new ClassesCsv ≡ old ClassesCsv → new EditedCsv ≡ Some (source_text s q)
+    → q.classes ≡ p.classes → SpellsSource s q → problem_in EditedCsv None new ≡ Ok (s, q)
+rows-spelled old new s p q read settings classes rows kept spells =
+    problem-by EditedCsv new ∙ (λ i. problem_by EditedCsv (settings i) (classes i) (rows i))
+    ∙ swapped (old SettingsToml) (old ClassesCsv) (old SourceCsv) s p q (sym (problem-by SourceCsv old) ∙ read) kept spells
+
+-- ---- what was read before the edits
+
+problem-first : (r : Result (SettingsFacts × ProblemFacts) InputFault) (s : SettingsFacts) (p : ProblemFacts) (lines : List EditLine) (next : SettingsFacts × ProblemFacts → Result (List EditLine) EditInputFault)
+    → and_then (fault_as edits.Input r) (λ given. and_then (next given) (λ ls. Ok (given, ls))) ≡ Ok ((s, p), lines) → r ≡ Ok (s, p)
+problem-first (Err e) s p lines next h = absurd cc
+problem-first (Ok given) s p lines next h = by (next given) h
+  where
+    by : (r : Result (List EditLine) EditInputFault) → and_then r (λ ls. Ok (given, ls)) ≡ Ok ((s, p), lines) → ◌≡◌ {A = Result (SettingsFacts × ProblemFacts) InputFault} (Ok given) (Ok (s, p))
+    by (Ok ls) h =
+        let same : ◌≡◌ {A = Result ((SettingsFacts × ProblemFacts) × List EditLine) EditInputFault} (Ok (given, ls)) (Ok ((s, p), lines)) = h in
+        let equal : ◌≡◌ {A = (SettingsFacts × ProblemFacts) × List EditLine} (given, ls) ((s, p), lines) = cc in
+        ap (λ (y : (SettingsFacts × ProblemFacts) × List EditLine). Ok y.0) equal
+    by (Err e) h = absurd cc
+
+problem-read : (files : Files) (s : SettingsFacts) (p : ProblemFacts) (lines : List EditLine) → edit_input_in None files ≡ Ok ((s, p), lines) → problem_in SourceCsv None files ≡ Ok (s, p)
+unfolding edit_input_in edited_in
+problem-read files s p lines h = problem-first (problem_in SourceCsv None files) s p lines (λ given. edits_in given.0 given.1.classes None files) h
+
+-- ---- the headline
+
+module _ (seats : List SeatFacts) (s : SettingsFacts) (p : ProblemFacts) (lines : List EditLine) (m : Moments) (are : moments_of (standing_labels seats) p lines ≡ Ok m) where
+  edit-balanced : (a : Answer) → IsAnswer m.last a → ReadsBack m.last a → SpellsSource s m.last → status_of a ≡ Balanced → (trail : List ℕ) (old now new : Files) → SameFiles old now → problem_in SourceCsv None old ≡ Ok (s, p) → input_of seats Edit None old ≡ Ok (to_edit s m)
+      → ((name : FileName) → same_name name ReviewCsv ≡ false → new name ≡ after_writes ((EditedCsv, source_text s m.last) ∷ (TrailCsv, trail) ∷ answer_files m.last a) now name) → Headline seats Edit WritesLeast old new
+  edit-balanced (answer.Infeasible set) is_right reads spells ends trail old now new same read given at = absurd cc
+  edit-balanced (answer.Balanced t ps) is_right reads spells ends trail old now new same read given at = record {
+    problem = m.last;
+    settings = s;
+    given = (m, given, refl);
+    spelled = rows-spelled old new s p m.last read (at SettingsToml refl ∙ same SettingsToml) (at ClassesCsv refl ∙ same ClassesCsv) (at EditedCsv refl) (same-classes (standing_labels seats) p lines m are) spells;
+    written = record {
+      table = t;
+      shown_by = ps;
+      table_spelled = spelled (new BalancedCsv) (balanced_text m.last t) (balanced_of m.last) t (at BalancedCsv refl) reads.0.short reads.0.read;
+      certificate_spelled = spelled (new CertificateCsv) (certificate_text m.last.classes (certificate.Potentials ps)) (certificate_of m.last) (certificate.Potentials ps) (at CertificateCsv refl) reads.1.short reads.1.read;
+      least = is_right.right.least;
+      one_gdp = record {
+        by_income = sym (production-income t is_right.right.least.admissible.identities);
+        by_expenditure = expenditure-income t is_right.right.least.admissible.identities ∙ sym (production-income t is_right.right.least.admissible.identities);
+      };
+      shown = is_right.right.shown;
+    };
+  }
+
+  edit-infeasible : (a : Answer) → IsAnswer m.last a → ReadsBack m.last a → SpellsSource s m.last → status_of a ≡ Infeasible → (trail : List ℕ) (old now new : Files) → SameFiles old now → problem_in SourceCsv None old ≡ Ok (s, p) → input_of seats Edit None old ≡ Ok (to_edit s m)
+      → ((name : FileName) → same_name name ReviewCsv ≡ false → new name ≡ after_writes ((EditedCsv, source_text s m.last) ∷ (TrailCsv, trail) ∷ answer_files m.last a) now name) → Headline seats Edit WritesCut old new
+  edit-infeasible (answer.Balanced t ps) is_right reads spells ends trail old now new same read given at = absurd cc
+  edit-infeasible (answer.Infeasible set) is_right reads spells ends trail old now new same read given at = record {
+    problem = m.last;
+    settings = s;
+    given = (m, given, refl);
+    spelled = rows-spelled old new s p m.last read (at SettingsToml refl ∙ same SettingsToml) (at ClassesCsv refl ∙ same ClassesCsv) (at EditedCsv refl) (same-classes (standing_labels seats) p lines m are) spells;
+    written = record {
+      set = set;
+      spelled = spelled (new CertificateCsv) (certificate_text m.last.classes (certificate.Cut set)) (certificate_of m.last) (certificate.Cut set) (at CertificateCsv refl) reads.short reads.read;
+      contradicts = is_right.right.contradicts;
+      impossible = is_right.infeasible.0 refl;
+    };
+  }
+
+  module _ (done : Status) (texts : List (FileName × List ℕ)) (printed : List ℕ) (x : IsPreparedEdit seats s m done texts printed) (before after : Option (List ℕ)) (old now new : Option Files) (kept : Told old now SameFiles)
+      (ok : IfSome old (λ files. edit_input_in None files ≡ Ok ((s, p), lines))) (given : IfSome old (λ files. input_of seats Edit None files ≡ Ok (to_edit s m)))
+      (stands : Told now new (λ y z. Delivered texts printed {T = Unit {0}} (Ok tt) y z before after)) where
+
+    both : (held : Option Files) → IfSome held (λ files. edit_input_in None files ≡ Ok ((s, p), lines)) → IfSome held (λ files. input_of seats Edit None files ≡ Ok (to_edit s m)) → IfSome held (λ files. (problem_in SourceCsv None files ≡ Ok (s, p)) × (input_of seats Edit None files ≡ Ok (to_edit s m)))
+    both None o g = tt
+    both (Some files) o g = (problem-read files s p lines o, g)
+
+    pub edit-balanced-told : done ≡ Balanced → Told old new (Headline seats Edit WritesLeast)
+    edit-balanced-told e =
+        told_then (λ (y z : Files). SameFiles y z × ((problem_in SourceCsv None y ≡ Ok (s, p)) × (input_of seats Edit None y ≡ Ok (to_edit s m)))) (λ y z. Delivered texts printed {T = Unit {0}} (Ok tt) y z before after) (Headline seats Edit WritesLeast)
+        (λ w y z read d. edit-balanced x.answer x.right x.reads_back x.spells (sym x.ends ∙ e) (trail_text x.events) w y z read.0 read.1 read.2
+        (stands-at (seats_after x.events seats) ((EditedCsv, source_text s m.last) ∷ (TrailCsv, trail_text x.events) ∷ answer_files m.last x.answer) y z (subst (λ t. WrittenAll t y z) x.written d.0)))
+        old now new (told_with SameFiles (λ (files : Files). (problem_in SourceCsv None files ≡ Ok (s, p)) × (input_of seats Edit None files ≡ Ok (to_edit s m))) old now kept (both old ok given)) stands
+
+    pub edit-infeasible-told : done ≡ Infeasible → Told old new (Headline seats Edit WritesCut)
+    edit-infeasible-told e =
+        told_then (λ (y z : Files). SameFiles y z × ((problem_in SourceCsv None y ≡ Ok (s, p)) × (input_of seats Edit None y ≡ Ok (to_edit s m)))) (λ y z. Delivered texts printed {T = Unit {0}} (Ok tt) y z before after) (Headline seats Edit WritesCut)
+        (λ w y z read d. edit-infeasible x.answer x.right x.reads_back x.spells (sym x.ends ∙ e) (trail_text x.events) w y z read.0 read.1 read.2
+        (stands-at (seats_after x.events seats) ((EditedCsv, source_text s m.last) ∷ (TrailCsv, trail_text x.events) ∷ answer_files m.last x.answer) y z (subst (λ t. WrittenAll t y z) x.written d.0)))
+        old now new (told_with SameFiles (λ (files : Files). (problem_in SourceCsv None files ≡ Ok (s, p)) × (input_of seats Edit None files ≡ Ok (to_edit s m))) old now kept (both old ok given)) stands
