@@ -1,4 +1,4 @@
-use Rattle.std.proofs.Common.{◌≡◌, ◌+◌, List, All, drop, take}
+use Rattle.std.proofs.Common.{◌≡◌, ◌≤◌, ◌+◌, List, All, drop, take}
 use Rattle.std.specs.Prelude.{count_by}
 use Rattle.sut_settings.specs.SettingsFacts.{SettingsFacts}
 use Rattle.sut_source.specs.SourceText.{HasGrade}
