@@ -23,8 +23,9 @@ pub(crate) fn help_text(alloc: Global) -> Result<String, AllocError> {
     let balance = Command::new(alloc, "balance").about(
         "Balances the year of settings.toml, classes.csv and source.csv in the current folder",
     );
-    let edit = Command::new(alloc, "edit")
-        .about("Balances the same year under the edits of its rows in edits.csv");
+    let edit = Command::new(alloc, "edit").about(
+        "Balances the same year under the edits of its rows in edits.csv",
+    );
     let generate = generate_command(alloc)?;
     let mut command = Command::new(alloc, "sut")
         .about("Balances supply and use tables")

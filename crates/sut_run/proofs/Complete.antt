@@ -1,5 +1,5 @@
 -- Completeness follows from what each answer says.
-use Rattle.std.proofs.Common.{◌≡◌, ◌⊎◌, None, Result, Ok, Err, inl, inr, refl}
+use Rattle.std.proofs.Common.{◌≡◌, ◌⊎◌, List, None, Result, Ok, Err, inl, inr, refl}
 use Rattle.std.specs.Prelude.{IsOk}
 use Rattle.sut_outside.specs.Files.{Files}
 use Rattle.sut_status.specs.declared.statuses.Status.{Status}

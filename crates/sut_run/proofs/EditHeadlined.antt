@@ -76,18 +76,18 @@ module _ (source : SettingsFacts → ClassLists → Result ProblemFacts InputFau
   same-pair : (t : SettingsFacts) (q : ProblemFacts) → ◌≡◌ {A = Result (SettingsFacts × ProblemFacts) InputFault} (Ok (t, q)) (Ok (s, p)) → ◌≡◌ {A = SettingsFacts × ProblemFacts} (t, q) (s, p)
   same-pair t q e = cc
 
-  third : (t : SettingsFacts) (cs : ClassLists) (r : Result ProblemFacts InputFault) → source t cs ≡ r → and_then r (λ q. Ok (t, q)) ≡ Ok (s, p) → (t ≡ s) × (source s cs ≡ Ok p)
+  third : (t : SettingsFacts) (cs : ClassLists) (r : Result ProblemFacts InputFault) → source t cs ≡ r → and_then {B = SettingsFacts × ProblemFacts} r (λ q. Ok (t, q)) ≡ Ok (s, p) → (t ≡ s) × (source s cs ≡ Ok p)
   third t cs (Ok q) is e =
       let x = same-pair t q e in
       let settings : t ≡ s = ap (λ (y : SettingsFacts × ProblemFacts). y.0) x in
       (settings, subst (λ z. source z cs ≡ Ok p) settings (is ∙ ap (λ (y : SettingsFacts × ProblemFacts). Ok y.1) x))
   third t cs (Err f) is e = absurd cc
 
-  second : (t : SettingsFacts) (b r : Result ClassLists InputFault) → b ≡ r → and_then r (λ cs. and_then (source t cs) (λ q. Ok (t, q))) ≡ Ok (s, p) → (cs : ClassLists) × (t ≡ s) × (b ≡ Ok cs) × (source s cs ≡ Ok p)
+  second : (t : SettingsFacts) (b r : Result ClassLists InputFault) → b ≡ r → and_then {B = SettingsFacts × ProblemFacts} r (λ cs. and_then {B = SettingsFacts × ProblemFacts} (source t cs) (λ q. Ok (t, q))) ≡ Ok (s, p) → (cs : ClassLists) × (t ≡ s) × (b ≡ Ok cs) × (source s cs ≡ Ok p)
   second t b (Ok cs) is e = let x = third t cs (source t cs) refl e in (cs, x.0, is, x.1)
   second t b (Err f) is e = absurd cc
 
-  first : (a r : Result SettingsFacts InputFault) (b : Result ClassLists InputFault) → a ≡ r → and_then r (λ t. and_then b (λ cs. and_then (source t cs) (λ q. Ok (t, q)))) ≡ Ok (s, p)
+  first : (a r : Result SettingsFacts InputFault) (b : Result ClassLists InputFault) → a ≡ r → and_then {B = SettingsFacts × ProblemFacts} r (λ t. and_then {B = SettingsFacts × ProblemFacts} b (λ cs. and_then {B = SettingsFacts × ProblemFacts} (source t cs) (λ q. Ok (t, q)))) ≡ Ok (s, p)
       → (cs : ClassLists) × (a ≡ Ok s) × (b ≡ Ok cs) × (source s cs ≡ Ok p)
   first a (Ok t) b is e = let x = second t b b refl e in (x.0, is ∙ ap (λ (y : SettingsFacts). Ok y) x.1, x.2, x.3)
   first a (Err f) b is e = absurd cc
@@ -106,9 +106,9 @@ swapped settings classes source s p q h kept spells =
     ap (λ fits. and_then (if fits then Ok text else Err (fault.TooLong EditedCsv)) (λ bytes. fault_as fault.BadSource (source_of s x.0 bytes))) (le-leb (length text) FILE_LIMIT spells.short)
     ∙ ap (fault_as fault.BadSource) (subst (λ cs. source_of s cs text ≡ Ok q) same spells.read)
     in
-    ap (λ r. and_then r (λ t. and_then b (λ cs. and_then (and_then (bytes_or (fault.Missing EditedCsv) (fault.TooLong EditedCsv) (Some text)) (λ bytes. fault_as fault.BadSource (source_of t cs bytes))) (λ y. Ok (t, y))))) x.1
-    ∙ ap (λ r. and_then r (λ cs. and_then (and_then (bytes_or (fault.Missing EditedCsv) (fault.TooLong EditedCsv) (Some text)) (λ bytes. fault_as fault.BadSource (source_of s cs bytes))) (λ y. Ok (s, y)))) x.2
-    ∙ ap (λ r. and_then r (λ y. Ok (s, y))) rows
+    ap (λ r. and_then {B = SettingsFacts × ProblemFacts} r (λ t. and_then {B = SettingsFacts × ProblemFacts} b (λ cs. and_then {B = SettingsFacts × ProblemFacts} (and_then (bytes_or (fault.Missing EditedCsv) (fault.TooLong EditedCsv) (Some text)) (λ bytes. fault_as fault.BadSource (source_of t cs bytes))) (λ y. Ok (t, y))))) x.1
+    ∙ ap (λ r. and_then {B = SettingsFacts × ProblemFacts} r (λ cs. and_then {B = SettingsFacts × ProblemFacts} (and_then (bytes_or (fault.Missing EditedCsv) (fault.TooLong EditedCsv) (Some text)) (λ bytes. fault_as fault.BadSource (source_of s cs bytes))) (λ y. Ok (s, y)))) x.2
+    ∙ ap (λ r. and_then {B = SettingsFacts × ProblemFacts} r (λ y. Ok (s, y))) rows
 
 rows-spelled : (old new : Files) (s : SettingsFacts) (p q : ProblemFacts) → problem_in SourceCsv None old ≡ Ok (s, p) → new SettingsToml ≡ old SettingsToml → new ClassesCsv ≡ old ClassesCsv → new EditedCsv ≡ Some (source_text s q)
     → q.classes ≡ p.classes → SpellsSource s q → problem_in EditedCsv None new ≡ Ok (s, q)
@@ -119,11 +119,11 @@ rows-spelled old new s p q read settings classes rows kept spells =
 -- ---- what was read before the edits
 
 problem-first : (r : Result (SettingsFacts × ProblemFacts) InputFault) (s : SettingsFacts) (p : ProblemFacts) (lines : List EditLine) (next : SettingsFacts × ProblemFacts → Result (List EditLine) EditInputFault)
-    → and_then (fault_as edits.Input r) (λ given. and_then (next given) (λ ls. Ok (given, ls))) ≡ Ok ((s, p), lines) → r ≡ Ok (s, p)
+    → and_then {B = (SettingsFacts × ProblemFacts) × List EditLine} (fault_as edits.Input r) (λ given. and_then {B = (SettingsFacts × ProblemFacts) × List EditLine} (next given) (λ ls. Ok (given, ls))) ≡ Ok ((s, p), lines) → r ≡ Ok (s, p)
 problem-first (Err e) s p lines next h = absurd cc
 problem-first (Ok given) s p lines next h = by (next given) h
   where
-    by : (r : Result (List EditLine) EditInputFault) → and_then r (λ ls. Ok (given, ls)) ≡ Ok ((s, p), lines) → ◌≡◌ {A = Result (SettingsFacts × ProblemFacts) InputFault} (Ok given) (Ok (s, p))
+    by : (r : Result (List EditLine) EditInputFault) → and_then {B = (SettingsFacts × ProblemFacts) × List EditLine} r (λ ls. Ok (given, ls)) ≡ Ok ((s, p), lines) → ◌≡◌ {A = Result (SettingsFacts × ProblemFacts) InputFault} (Ok given) (Ok (s, p))
     by (Ok ls) h =
         let same : ◌≡◌ {A = Result ((SettingsFacts × ProblemFacts) × List EditLine) EditInputFault} (Ok (given, ls)) (Ok ((s, p), lines)) = h in
         let equal : ◌≡◌ {A = (SettingsFacts × ProblemFacts) × List EditLine} (given, ls) ((s, p), lines) = cc in
@@ -178,7 +178,6 @@ module _ (seats : List SeatFacts) (s : SettingsFacts) (p : ProblemFacts) (lines 
   module _ (done : Status) (texts : List (FileName × List ℕ)) (printed : List ℕ) (x : IsPreparedEdit seats s m done texts printed) (before after : Option (List ℕ)) (old now new : Option Files) (kept : Told old now SameFiles)
       (ok : IfSome old (λ files. edit_input_in None files ≡ Ok ((s, p), lines))) (given : IfSome old (λ files. input_of seats Edit None files ≡ Ok (to_edit s m)))
       (stands : Told now new (λ y z. Delivered texts printed {T = Unit {0}} (Ok tt) y z before after)) where
-
     both : (held : Option Files) → IfSome held (λ files. edit_input_in None files ≡ Ok ((s, p), lines)) → IfSome held (λ files. input_of seats Edit None files ≡ Ok (to_edit s m)) → IfSome held (λ files. (problem_in SourceCsv None files ≡ Ok (s, p)) × (input_of seats Edit None files ≡ Ok (to_edit s m)))
     both None o g = tt
     both (Some files) o g = (problem-read files s p lines o, g)
@@ -186,13 +185,13 @@ module _ (seats : List SeatFacts) (s : SettingsFacts) (p : ProblemFacts) (lines 
     pub edit-balanced-told : done ≡ Balanced → Told old new (Headline seats Edit WritesLeast)
     edit-balanced-told e =
         told_then (λ (y z : Files). SameFiles y z × ((problem_in SourceCsv None y ≡ Ok (s, p)) × (input_of seats Edit None y ≡ Ok (to_edit s m)))) (λ y z. Delivered texts printed {T = Unit {0}} (Ok tt) y z before after) (Headline seats Edit WritesLeast)
-        (λ w y z read d. edit-balanced x.answer x.right x.reads_back x.spells (sym x.ends ∙ e) (trail_text x.events) w y z read.0 read.1 read.2
+        (λ w y z read d. edit-balanced x.answer x.right x.reads_back x.spells (sym x.ends ∙ e) (trail_text x.events) w y z read.0 read.1.0 read.1.1
         (stands-at (seats_after x.events seats) ((EditedCsv, source_text s m.last) ∷ (TrailCsv, trail_text x.events) ∷ answer_files m.last x.answer) y z (subst (λ t. WrittenAll t y z) x.written d.0)))
         old now new (told_with SameFiles (λ (files : Files). (problem_in SourceCsv None files ≡ Ok (s, p)) × (input_of seats Edit None files ≡ Ok (to_edit s m))) old now kept (both old ok given)) stands
 
     pub edit-infeasible-told : done ≡ Infeasible → Told old new (Headline seats Edit WritesCut)
     edit-infeasible-told e =
         told_then (λ (y z : Files). SameFiles y z × ((problem_in SourceCsv None y ≡ Ok (s, p)) × (input_of seats Edit None y ≡ Ok (to_edit s m)))) (λ y z. Delivered texts printed {T = Unit {0}} (Ok tt) y z before after) (Headline seats Edit WritesCut)
-        (λ w y z read d. edit-infeasible x.answer x.right x.reads_back x.spells (sym x.ends ∙ e) (trail_text x.events) w y z read.0 read.1 read.2
+        (λ w y z read d. edit-infeasible x.answer x.right x.reads_back x.spells (sym x.ends ∙ e) (trail_text x.events) w y z read.0 read.1.0 read.1.1
         (stands-at (seats_after x.events seats) ((EditedCsv, source_text s m.last) ∷ (TrailCsv, trail_text x.events) ∷ answer_files m.last x.answer) y z (subst (λ t. WrittenAll t y z) x.written d.0)))
         old now new (told_with SameFiles (λ (files : Files). (problem_in SourceCsv None files ≡ Ok (s, p)) × (input_of seats Edit None files ≡ Ok (to_edit s m))) old now kept (both old ok given)) stands

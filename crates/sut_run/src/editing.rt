@@ -28,7 +28,7 @@ use std::alloc::Global;
 use sut_cert::Answer;
 use sut_editing::{Edited, EditingFault, edit_rows};
 use sut_edits::EditLine;
-use sut_input::{EditInputFault, read_edit_input};
+use sut_input::{EditInput, EditInputFault, read_edit_input};
 use sut_outside::{FileName, Shelf, Sink};
 use sut_review::Reviewer;
 use sut_settings::Settings;
@@ -102,15 +102,11 @@ fn prepare_edited(alloc: Global, s: &Settings, edited: Edited) -> Result<Prepare
     ensures spells { OnOk result (SpellsSource s.now edited.problem) }
 {
     let done = status_of(&edited.answer);
-    match make_edited(
-        alloc,
-        s,
-        &edited.problem,
-        edited.answer,
-        edited.trail,
-        edited.lines,
-        edited.review,
-    ) {
+    let problem = edited.problem;
+    let answer = edited.answer;
+    let trail = edited.trail;
+    let lines = edited.lines;
+    match make_edited(alloc, s, &problem, answer, trail, lines, edited.review) {
         Ok(made) => Ok(Prepared { done, made }),
         Err(_) => Err(NoMemory),
     }
@@ -137,6 +133,24 @@ fn prepare_edit(
         },
         Err(fault) => Err(fault),
     }
+}
+
+// The same for what was read.
+fn prepare_given(
+    alloc: Global,
+    given: EditInput,
+    reviewers: Vec<Box<dyn Reviewer>>,
+) -> Result<Prepared, EditingFault>
+    requires zero { All (λ b. marked b ≡ 0) reviewers.items }
+    requires good { AreEditsOf given.input.settings given.input.problem.classes given.edits.items }
+    requires graded { All (HasGrade given.input.settings) given.input.problem.rows }
+    ensures prepared { IfOk result (λ x. PreparesEdit (map (λ b. new_seat (name b) (rule b)) reviewers.items) given.input.settings given.input.problem given.edits.items x.done (texts_in x.made.outputs.items) x.made.lines.items) }
+    ensures refused { IfErr result (λ fault. IfRefused fault (λ f. moments_of (standing_labels (map (λ b. new_seat (name b) (rule b)) reviewers.items)) given.input.problem given.edits.items ≡ Err f)) }
+{
+    let settings = given.input.settings;
+    let problem = given.input.problem;
+    let edits = given.edits;
+    prepare_edit(alloc, &settings, problem, &edits, reviewers)
 }
 
 fn edit_stopped(fault: EditingFault) -> Status
@@ -173,13 +187,7 @@ pub(crate) fn run_edit<F: Shelf, K: Sink>(
             return edits_refused(fault);
         }
     };
-    let prepared = match prepare_edit(
-        alloc,
-        &given.input.settings,
-        given.input.problem,
-        &given.edits,
-        reviewers,
-    ) {
+    let prepared = match prepare_given(alloc, given, reviewers) {
         Ok(prepared) => prepared,
         Err(fault) => return edit_stopped(fault),
     };

@@ -50,98 +50,98 @@ pub returns-in-Err-clause-used : goal.returns-in-Err-clause-used
 returns-in-Err-clause-used g c e =
     absurd (subst IsRefusal (sym c.edits_refused.ensures ∙ e) (is-edits-refusal c.in-Err.fault))
 
-pub returns-in-Err-prepare_edit-clause-input : goal.returns-in-Err-prepare_edit-clause-input
-returns-in-Err-prepare_edit-clause-input g c =
-    let P : Status → Type 0 = λ s. IfSome (g.F.Shelf.files c.args.shelf.now) (λ (files : Files). AnswersInput (map (λ b. new_seat ((g.dyn-1.0.entry b.vtable).1.name b.value) ((g.dyn-1.0.entry b.vtable).1.rule b.value)) c.args.reviewers.items) Edit files s) in subst P (sym c.edit_stopped.ensures) (stopped-answers (map (λ b. new_seat ((g.dyn-1.0.entry b.vtable).1.name b.value) ((g.dyn-1.0.entry b.vtable).1.rule b.value)) c.args.reviewers.items) c.in-Ok.given.input.settings c.in-Ok.given.input.problem c.in-Ok.given.edits.items (g.F.Shelf.files c.args.shelf.now) c.in-Err-prepare_edit.fault c.in-Ok.ensures.ok c.in-Err-prepare_edit.ensures.refused)
+pub returns-in-Err-prepare_given-clause-input : goal.returns-in-Err-prepare_given-clause-input
+returns-in-Err-prepare_given-clause-input g c =
+    let P : Status → Type 0 = λ s. IfSome (g.F.Shelf.files c.args.shelf.now) (λ (files : Files). AnswersInput (map (λ b. new_seat ((g.dyn-1.0.entry b.vtable).1.name b.value) ((g.dyn-1.0.entry b.vtable).1.rule b.value)) c.args.reviewers.items) Edit files s) in subst P (sym c.edit_stopped.ensures) (stopped-answers (map (λ b. new_seat ((g.dyn-1.0.entry b.vtable).1.name b.value) ((g.dyn-1.0.entry b.vtable).1.rule b.value)) c.args.reviewers.items) c.in-Ok.given.input.settings c.in-Ok.given.input.problem c.in-Ok.given.edits.items (g.F.Shelf.files c.args.shelf.now) c.in-Err-prepare_given.fault c.in-Ok.ensures.ok c.in-Err-prepare_given.ensures.refused)
 
-pub returns-in-Err-prepare_edit-clause-stands : goal.returns-in-Err-prepare_edit-clause-stands
-returns-in-Err-prepare_edit-clause-stands g c =
-    let P : Status → Type 0 = λ s. Told (g.F.Shelf.files c.args.shelf.now) (g.F.Shelf.files c.read_edit_input.new.shelf) (Stands (map (λ b. new_seat ((g.dyn-1.0.entry b.vtable).1.name b.value) ((g.dyn-1.0.entry b.vtable).1.rule b.value)) c.args.reviewers.items) Edit s (g.K.Sink.sent c.args.out.now) (g.K.Sink.sent c.args.out.now)) in subst P (sym c.edit_stopped.ensures) (stopped-told (map (λ b. new_seat ((g.dyn-1.0.entry b.vtable).1.name b.value) ((g.dyn-1.0.entry b.vtable).1.rule b.value)) c.args.reviewers.items) c.in-Err-prepare_edit.fault (g.K.Sink.sent c.args.out.now) _ _ c.read_edit_input.ensures.kept)
+pub returns-in-Err-prepare_given-clause-stands : goal.returns-in-Err-prepare_given-clause-stands
+returns-in-Err-prepare_given-clause-stands g c =
+    let P : Status → Type 0 = λ s. Told (g.F.Shelf.files c.args.shelf.now) (g.F.Shelf.files c.read_edit_input.new.shelf) (Stands (map (λ b. new_seat ((g.dyn-1.0.entry b.vtable).1.name b.value) ((g.dyn-1.0.entry b.vtable).1.rule b.value)) c.args.reviewers.items) Edit s (g.K.Sink.sent c.args.out.now) (g.K.Sink.sent c.args.out.now)) in subst P (sym c.edit_stopped.ensures) (stopped-told (map (λ b. new_seat ((g.dyn-1.0.entry b.vtable).1.name b.value) ((g.dyn-1.0.entry b.vtable).1.rule b.value)) c.args.reviewers.items) c.in-Err-prepare_given.fault (g.K.Sink.sent c.args.out.now) _ _ c.read_edit_input.ensures.kept)
 
-pub returns-in-Err-prepare_edit-clause-read_fault : goal.returns-in-Err-prepare_edit-clause-read_fault
-returns-in-Err-prepare_edit-clause-read_fault g c =
-    let P : Status → Type 0 = λ s. IfReadFault s (λ (failed : FileName). Rose (g.F.Shelf.faults c.args.shelf.now) (g.F.Shelf.faults c.read_edit_input.new.shelf) × (g.F.Shelf.last_failed c.read_edit_input.new.shelf ≡ Some failed) × Contains (read_names Edit) failed) in subst P (sym c.edit_stopped.ensures) (stopped-reads c.in-Err-prepare_edit.fault _)
+pub returns-in-Err-prepare_given-clause-read_fault : goal.returns-in-Err-prepare_given-clause-read_fault
+returns-in-Err-prepare_given-clause-read_fault g c =
+    let P : Status → Type 0 = λ s. IfReadFault s (λ (failed : FileName). Rose (g.F.Shelf.faults c.args.shelf.now) (g.F.Shelf.faults c.read_edit_input.new.shelf) × (g.F.Shelf.last_failed c.read_edit_input.new.shelf ≡ Some failed) × Contains (read_names Edit) failed) in subst P (sym c.edit_stopped.ensures) (stopped-reads c.in-Err-prepare_given.fault _)
 
-pub returns-in-Err-prepare_edit-clause-write_fault : goal.returns-in-Err-prepare_edit-clause-write_fault
-returns-in-Err-prepare_edit-clause-write_fault g c =
-    let P : Status → Type 0 = λ s. IfWriteFault s (λ (failed : FileName). Rose (g.F.Shelf.faults c.args.shelf.now) (g.F.Shelf.faults c.read_edit_input.new.shelf) × (g.F.Shelf.last_failed c.read_edit_input.new.shelf ≡ Some failed) × Contains (written_names Edit) failed) in subst P (sym c.edit_stopped.ensures) (stopped-writes c.in-Err-prepare_edit.fault _)
+pub returns-in-Err-prepare_given-clause-write_fault : goal.returns-in-Err-prepare_given-clause-write_fault
+returns-in-Err-prepare_given-clause-write_fault g c =
+    let P : Status → Type 0 = λ s. IfWriteFault s (λ (failed : FileName). Rose (g.F.Shelf.faults c.args.shelf.now) (g.F.Shelf.faults c.read_edit_input.new.shelf) × (g.F.Shelf.last_failed c.read_edit_input.new.shelf ≡ Some failed) × Contains (written_names Edit) failed) in subst P (sym c.edit_stopped.ensures) (stopped-writes c.in-Err-prepare_given.fault _)
 
-pub returns-in-Err-prepare_edit-clause-sink_fault : goal.returns-in-Err-prepare_edit-clause-sink_fault
-returns-in-Err-prepare_edit-clause-sink_fault g c e =
-    absurd (subst IsRefusal (sym c.edit_stopped.ensures ∙ e) (is-stopped-refusal c.in-Err-prepare_edit.fault))
+pub returns-in-Err-prepare_given-clause-sink_fault : goal.returns-in-Err-prepare_given-clause-sink_fault
+returns-in-Err-prepare_given-clause-sink_fault g c e =
+    absurd (subst IsRefusal (sym c.edit_stopped.ensures ∙ e) (is-stopped-refusal c.in-Err-prepare_given.fault))
 
-pub returns-in-Err-prepare_edit-clause-balanced : goal.returns-in-Err-prepare_edit-clause-balanced
-returns-in-Err-prepare_edit-clause-balanced g c e =
-    absurd (subst IsRefusal (sym c.edit_stopped.ensures ∙ e) (is-stopped-refusal c.in-Err-prepare_edit.fault))
+pub returns-in-Err-prepare_given-clause-balanced : goal.returns-in-Err-prepare_given-clause-balanced
+returns-in-Err-prepare_given-clause-balanced g c e =
+    absurd (subst IsRefusal (sym c.edit_stopped.ensures ∙ e) (is-stopped-refusal c.in-Err-prepare_given.fault))
 
-pub returns-in-Err-prepare_edit-clause-infeasible : goal.returns-in-Err-prepare_edit-clause-infeasible
-returns-in-Err-prepare_edit-clause-infeasible g c e =
-    absurd (subst IsRefusal (sym c.edit_stopped.ensures ∙ e) (is-stopped-refusal c.in-Err-prepare_edit.fault))
+pub returns-in-Err-prepare_given-clause-infeasible : goal.returns-in-Err-prepare_given-clause-infeasible
+returns-in-Err-prepare_given-clause-infeasible g c e =
+    absurd (subst IsRefusal (sym c.edit_stopped.ensures ∙ e) (is-stopped-refusal c.in-Err-prepare_given.fault))
 
-pub returns-in-Err-prepare_edit-clause-used : goal.returns-in-Err-prepare_edit-clause-used
-returns-in-Err-prepare_edit-clause-used g c e =
-    absurd (subst IsRefusal (sym c.edit_stopped.ensures ∙ e) (is-stopped-refusal c.in-Err-prepare_edit.fault))
+pub returns-in-Err-prepare_given-clause-used : goal.returns-in-Err-prepare_given-clause-used
+returns-in-Err-prepare_given-clause-used g c e =
+    absurd (subst IsRefusal (sym c.edit_stopped.ensures ∙ e) (is-stopped-refusal c.in-Err-prepare_given.fault))
 
 pub returns-in-Ok-deliver-clause-input : goal.returns-in-Ok-deliver-clause-input
 returns-in-Ok-deliver-clause-input g c =
-    done-answers (map (λ b. new_seat ((g.dyn-1.0.entry b.vtable).1.name b.value) ((g.dyn-1.0.entry b.vtable).1.rule b.value)) c.args.reviewers.items) Edit (to_edit c.in-Ok.given.input.settings c.in-Ok-prepare_edit.ensures.prepared.moments) c.in-Ok-prepare_edit.prepared.done (answer-done c.in-Ok-prepare_edit.ensures.prepared.is.answer c.in-Ok-prepare_edit.prepared.done c.in-Ok-prepare_edit.ensures.prepared.is.ends) (g.F.Shelf.files c.args.shelf.now) (edits-given (map (λ b. new_seat ((g.dyn-1.0.entry b.vtable).1.name b.value) ((g.dyn-1.0.entry b.vtable).1.rule b.value)) c.args.reviewers.items) c.in-Ok.given.input.settings c.in-Ok.given.input.problem c.in-Ok.given.edits.items (g.F.Shelf.files c.args.shelf.now) c.in-Ok-prepare_edit.ensures.prepared.moments c.in-Ok.ensures.ok c.in-Ok-prepare_edit.ensures.prepared.are)
+    done-answers (map (λ b. new_seat ((g.dyn-1.0.entry b.vtable).1.name b.value) ((g.dyn-1.0.entry b.vtable).1.rule b.value)) c.args.reviewers.items) Edit (to_edit c.in-Ok.given.input.settings c.in-Ok-prepare_given.ensures.prepared.moments) c.in-Ok-prepare_given.prepared.done (answer-done c.in-Ok-prepare_given.ensures.prepared.is.answer c.in-Ok-prepare_given.prepared.done c.in-Ok-prepare_given.ensures.prepared.is.ends) (g.F.Shelf.files c.args.shelf.now) (edits-given (map (λ b. new_seat ((g.dyn-1.0.entry b.vtable).1.name b.value) ((g.dyn-1.0.entry b.vtable).1.rule b.value)) c.args.reviewers.items) c.in-Ok.given.input.settings c.in-Ok.given.input.problem c.in-Ok.given.edits.items (g.F.Shelf.files c.args.shelf.now) c.in-Ok-prepare_given.ensures.prepared.moments c.in-Ok.ensures.ok c.in-Ok-prepare_given.ensures.prepared.are)
 
 pub returns-in-Ok-deliver-clause-stands : goal.returns-in-Ok-deliver-clause-stands
 returns-in-Ok-deliver-clause-stands g c =
-    told_then (λ (old now : Files). SameFiles old now × (input_of (map (λ b. new_seat ((g.dyn-1.0.entry b.vtable).1.name b.value) ((g.dyn-1.0.entry b.vtable).1.rule b.value)) c.args.reviewers.items) Edit None old ≡ Ok (to_edit c.in-Ok.given.input.settings c.in-Ok-prepare_edit.ensures.prepared.moments))) (λ (now new : Files). Delivered (texts_in c.in-Ok-prepare_edit.prepared.made.outputs.items) c.in-Ok-prepare_edit.prepared.made.lines.items {T = Unit {0}} (Ok tt) now new (g.K.Sink.sent c.args.out.now) (g.K.Sink.sent c.deliver.new.out)) (Stands (map (λ b. new_seat ((g.dyn-1.0.entry b.vtable).1.name b.value) ((g.dyn-1.0.entry b.vtable).1.rule b.value)) c.args.reviewers.items) Edit c.in-Ok-prepare_edit.prepared.done (g.K.Sink.sent c.args.out.now) (g.K.Sink.sent c.deliver.new.out))
-    (λ old now new read w. done-stands (map (λ b. new_seat ((g.dyn-1.0.entry b.vtable).1.name b.value) ((g.dyn-1.0.entry b.vtable).1.rule b.value)) c.args.reviewers.items) Edit (to_edit c.in-Ok.given.input.settings c.in-Ok-prepare_edit.ensures.prepared.moments) c.in-Ok-prepare_edit.prepared.done (record { texts = texts_in c.in-Ok-prepare_edit.prepared.made.outputs.items; lines = c.in-Ok-prepare_edit.prepared.made.lines.items }) (gives-edits (map (λ b. new_seat ((g.dyn-1.0.entry b.vtable).1.name b.value) ((g.dyn-1.0.entry b.vtable).1.rule b.value)) c.args.reviewers.items) c.in-Ok.given.input.settings c.in-Ok-prepare_edit.ensures.prepared.moments c.in-Ok-prepare_edit.prepared.done (texts_in c.in-Ok-prepare_edit.prepared.made.outputs.items) c.in-Ok-prepare_edit.prepared.made.lines.items c.in-Ok-prepare_edit.ensures.prepared.is) (answer-done c.in-Ok-prepare_edit.ensures.prepared.is.answer c.in-Ok-prepare_edit.prepared.done c.in-Ok-prepare_edit.ensures.prepared.is.ends) (g.K.Sink.sent c.args.out.now) (g.K.Sink.sent c.deliver.new.out) old now new read.0 read.1 w)
-    _ _ _ (told_with SameFiles (λ (files : Files). input_of (map (λ b. new_seat ((g.dyn-1.0.entry b.vtable).1.name b.value) ((g.dyn-1.0.entry b.vtable).1.rule b.value)) c.args.reviewers.items) Edit None files ≡ Ok (to_edit c.in-Ok.given.input.settings c.in-Ok-prepare_edit.ensures.prepared.moments)) _ _ c.read_edit_input.ensures.kept (edits-given (map (λ b. new_seat ((g.dyn-1.0.entry b.vtable).1.name b.value) ((g.dyn-1.0.entry b.vtable).1.rule b.value)) c.args.reviewers.items) c.in-Ok.given.input.settings c.in-Ok.given.input.problem c.in-Ok.given.edits.items (g.F.Shelf.files c.args.shelf.now) c.in-Ok-prepare_edit.ensures.prepared.moments c.in-Ok.ensures.ok c.in-Ok-prepare_edit.ensures.prepared.are)) c.in-Ok-deliver.ensures.stands
+    told_then (λ (old now : Files). SameFiles old now × (input_of (map (λ b. new_seat ((g.dyn-1.0.entry b.vtable).1.name b.value) ((g.dyn-1.0.entry b.vtable).1.rule b.value)) c.args.reviewers.items) Edit None old ≡ Ok (to_edit c.in-Ok.given.input.settings c.in-Ok-prepare_given.ensures.prepared.moments))) (λ (now new : Files). Delivered (texts_in c.in-Ok-prepare_given.prepared.made.outputs.items) c.in-Ok-prepare_given.prepared.made.lines.items {T = Unit {0}} (Ok tt) now new (g.K.Sink.sent c.args.out.now) (g.K.Sink.sent c.deliver.new.out)) (Stands (map (λ b. new_seat ((g.dyn-1.0.entry b.vtable).1.name b.value) ((g.dyn-1.0.entry b.vtable).1.rule b.value)) c.args.reviewers.items) Edit c.in-Ok-prepare_given.prepared.done (g.K.Sink.sent c.args.out.now) (g.K.Sink.sent c.deliver.new.out))
+    (λ old now new read w. done-stands (map (λ b. new_seat ((g.dyn-1.0.entry b.vtable).1.name b.value) ((g.dyn-1.0.entry b.vtable).1.rule b.value)) c.args.reviewers.items) Edit (to_edit c.in-Ok.given.input.settings c.in-Ok-prepare_given.ensures.prepared.moments) c.in-Ok-prepare_given.prepared.done (record { texts = texts_in c.in-Ok-prepare_given.prepared.made.outputs.items; lines = c.in-Ok-prepare_given.prepared.made.lines.items }) (gives-edits (map (λ b. new_seat ((g.dyn-1.0.entry b.vtable).1.name b.value) ((g.dyn-1.0.entry b.vtable).1.rule b.value)) c.args.reviewers.items) c.in-Ok.given.input.settings c.in-Ok-prepare_given.ensures.prepared.moments c.in-Ok-prepare_given.prepared.done (texts_in c.in-Ok-prepare_given.prepared.made.outputs.items) c.in-Ok-prepare_given.prepared.made.lines.items c.in-Ok-prepare_given.ensures.prepared.is) (answer-done c.in-Ok-prepare_given.ensures.prepared.is.answer c.in-Ok-prepare_given.prepared.done c.in-Ok-prepare_given.ensures.prepared.is.ends) (g.K.Sink.sent c.args.out.now) (g.K.Sink.sent c.deliver.new.out) old now new read.0 read.1 w)
+    _ _ _ (told_with SameFiles (λ (files : Files). input_of (map (λ b. new_seat ((g.dyn-1.0.entry b.vtable).1.name b.value) ((g.dyn-1.0.entry b.vtable).1.rule b.value)) c.args.reviewers.items) Edit None files ≡ Ok (to_edit c.in-Ok.given.input.settings c.in-Ok-prepare_given.ensures.prepared.moments)) _ _ c.read_edit_input.ensures.kept (edits-given (map (λ b. new_seat ((g.dyn-1.0.entry b.vtable).1.name b.value) ((g.dyn-1.0.entry b.vtable).1.rule b.value)) c.args.reviewers.items) c.in-Ok.given.input.settings c.in-Ok.given.input.problem c.in-Ok.given.edits.items (g.F.Shelf.files c.args.shelf.now) c.in-Ok-prepare_given.ensures.prepared.moments c.in-Ok.ensures.ok c.in-Ok-prepare_given.ensures.prepared.are)) c.in-Ok-deliver.ensures.stands
 
 pub returns-in-Ok-deliver-clause-read_fault : goal.returns-in-Ok-deliver-clause-read_fault
 returns-in-Ok-deliver-clause-read_fault g c =
-    done-reads c.in-Ok-prepare_edit.prepared.done (answer-done c.in-Ok-prepare_edit.ensures.prepared.is.answer c.in-Ok-prepare_edit.prepared.done c.in-Ok-prepare_edit.ensures.prepared.is.ends) _
+    done-reads c.in-Ok-prepare_given.prepared.done (answer-done c.in-Ok-prepare_given.ensures.prepared.is.answer c.in-Ok-prepare_given.prepared.done c.in-Ok-prepare_given.ensures.prepared.is.ends) _
 
 pub returns-in-Ok-deliver-clause-write_fault : goal.returns-in-Ok-deliver-clause-write_fault
 returns-in-Ok-deliver-clause-write_fault g c =
-    done-writes c.in-Ok-prepare_edit.prepared.done (answer-done c.in-Ok-prepare_edit.ensures.prepared.is.answer c.in-Ok-prepare_edit.prepared.done c.in-Ok-prepare_edit.ensures.prepared.is.ends) _
+    done-writes c.in-Ok-prepare_given.prepared.done (answer-done c.in-Ok-prepare_given.ensures.prepared.is.answer c.in-Ok-prepare_given.prepared.done c.in-Ok-prepare_given.ensures.prepared.is.ends) _
 
 pub returns-in-Ok-deliver-clause-sink_fault : goal.returns-in-Ok-deliver-clause-sink_fault
 returns-in-Ok-deliver-clause-sink_fault g c e =
-    absurd (subst IsDone e (answer-done c.in-Ok-prepare_edit.ensures.prepared.is.answer c.in-Ok-prepare_edit.prepared.done c.in-Ok-prepare_edit.ensures.prepared.is.ends))
+    absurd (subst IsDone e (answer-done c.in-Ok-prepare_given.ensures.prepared.is.answer c.in-Ok-prepare_given.prepared.done c.in-Ok-prepare_given.ensures.prepared.is.ends))
 
 pub returns-in-Ok-deliver-clause-used : goal.returns-in-Ok-deliver-clause-used
 returns-in-Ok-deliver-clause-used g c e =
-    absurd (subst IsDone e (answer-done c.in-Ok-prepare_edit.ensures.prepared.is.answer c.in-Ok-prepare_edit.prepared.done c.in-Ok-prepare_edit.ensures.prepared.is.ends))
+    absurd (subst IsDone e (answer-done c.in-Ok-prepare_given.ensures.prepared.is.answer c.in-Ok-prepare_given.prepared.done c.in-Ok-prepare_given.ensures.prepared.is.ends))
 
 pub returns-in-Ok-deliver-clause-balanced : goal.returns-in-Ok-deliver-clause-balanced
 returns-in-Ok-deliver-clause-balanced g c e =
-    edit-balanced-told (map (λ b. new_seat ((g.dyn-1.0.entry b.vtable).1.name b.value) ((g.dyn-1.0.entry b.vtable).1.rule b.value)) c.args.reviewers.items) c.in-Ok.given.input.settings c.in-Ok.given.input.problem c.in-Ok.given.edits.items c.in-Ok-prepare_edit.ensures.prepared.moments c.in-Ok-prepare_edit.ensures.prepared.are c.in-Ok-prepare_edit.prepared.done (texts_in c.in-Ok-prepare_edit.prepared.made.outputs.items) c.in-Ok-prepare_edit.prepared.made.lines.items c.in-Ok-prepare_edit.ensures.prepared.is (g.K.Sink.sent c.args.out.now) (g.K.Sink.sent c.deliver.new.out) _ _ _ c.read_edit_input.ensures.kept c.in-Ok.ensures.ok (edits-given (map (λ b. new_seat ((g.dyn-1.0.entry b.vtable).1.name b.value) ((g.dyn-1.0.entry b.vtable).1.rule b.value)) c.args.reviewers.items) c.in-Ok.given.input.settings c.in-Ok.given.input.problem c.in-Ok.given.edits.items (g.F.Shelf.files c.args.shelf.now) c.in-Ok-prepare_edit.ensures.prepared.moments c.in-Ok.ensures.ok c.in-Ok-prepare_edit.ensures.prepared.are) c.in-Ok-deliver.ensures.stands e
+    edit-balanced-told (map (λ b. new_seat ((g.dyn-1.0.entry b.vtable).1.name b.value) ((g.dyn-1.0.entry b.vtable).1.rule b.value)) c.args.reviewers.items) c.in-Ok.given.input.settings c.in-Ok.given.input.problem c.in-Ok.given.edits.items c.in-Ok-prepare_given.ensures.prepared.moments c.in-Ok-prepare_given.ensures.prepared.are c.in-Ok-prepare_given.prepared.done (texts_in c.in-Ok-prepare_given.prepared.made.outputs.items) c.in-Ok-prepare_given.prepared.made.lines.items c.in-Ok-prepare_given.ensures.prepared.is (g.K.Sink.sent c.args.out.now) (g.K.Sink.sent c.deliver.new.out) _ _ _ c.read_edit_input.ensures.kept c.in-Ok.ensures.ok (edits-given (map (λ b. new_seat ((g.dyn-1.0.entry b.vtable).1.name b.value) ((g.dyn-1.0.entry b.vtable).1.rule b.value)) c.args.reviewers.items) c.in-Ok.given.input.settings c.in-Ok.given.input.problem c.in-Ok.given.edits.items (g.F.Shelf.files c.args.shelf.now) c.in-Ok-prepare_given.ensures.prepared.moments c.in-Ok.ensures.ok c.in-Ok-prepare_given.ensures.prepared.are) c.in-Ok-deliver.ensures.stands e
 
 pub returns-in-Ok-deliver-clause-infeasible : goal.returns-in-Ok-deliver-clause-infeasible
 returns-in-Ok-deliver-clause-infeasible g c e =
-    edit-infeasible-told (map (λ b. new_seat ((g.dyn-1.0.entry b.vtable).1.name b.value) ((g.dyn-1.0.entry b.vtable).1.rule b.value)) c.args.reviewers.items) c.in-Ok.given.input.settings c.in-Ok.given.input.problem c.in-Ok.given.edits.items c.in-Ok-prepare_edit.ensures.prepared.moments c.in-Ok-prepare_edit.ensures.prepared.are c.in-Ok-prepare_edit.prepared.done (texts_in c.in-Ok-prepare_edit.prepared.made.outputs.items) c.in-Ok-prepare_edit.prepared.made.lines.items c.in-Ok-prepare_edit.ensures.prepared.is (g.K.Sink.sent c.args.out.now) (g.K.Sink.sent c.deliver.new.out) _ _ _ c.read_edit_input.ensures.kept c.in-Ok.ensures.ok (edits-given (map (λ b. new_seat ((g.dyn-1.0.entry b.vtable).1.name b.value) ((g.dyn-1.0.entry b.vtable).1.rule b.value)) c.args.reviewers.items) c.in-Ok.given.input.settings c.in-Ok.given.input.problem c.in-Ok.given.edits.items (g.F.Shelf.files c.args.shelf.now) c.in-Ok-prepare_edit.ensures.prepared.moments c.in-Ok.ensures.ok c.in-Ok-prepare_edit.ensures.prepared.are) c.in-Ok-deliver.ensures.stands e
+    edit-infeasible-told (map (λ b. new_seat ((g.dyn-1.0.entry b.vtable).1.name b.value) ((g.dyn-1.0.entry b.vtable).1.rule b.value)) c.args.reviewers.items) c.in-Ok.given.input.settings c.in-Ok.given.input.problem c.in-Ok.given.edits.items c.in-Ok-prepare_given.ensures.prepared.moments c.in-Ok-prepare_given.ensures.prepared.are c.in-Ok-prepare_given.prepared.done (texts_in c.in-Ok-prepare_given.prepared.made.outputs.items) c.in-Ok-prepare_given.prepared.made.lines.items c.in-Ok-prepare_given.ensures.prepared.is (g.K.Sink.sent c.args.out.now) (g.K.Sink.sent c.deliver.new.out) _ _ _ c.read_edit_input.ensures.kept c.in-Ok.ensures.ok (edits-given (map (λ b. new_seat ((g.dyn-1.0.entry b.vtable).1.name b.value) ((g.dyn-1.0.entry b.vtable).1.rule b.value)) c.args.reviewers.items) c.in-Ok.given.input.settings c.in-Ok.given.input.problem c.in-Ok.given.edits.items (g.F.Shelf.files c.args.shelf.now) c.in-Ok-prepare_given.ensures.prepared.moments c.in-Ok.ensures.ok c.in-Ok-prepare_given.ensures.prepared.are) c.in-Ok-deliver.ensures.stands e
 
 pub returns-clause-input : goal.returns-clause-input
 returns-clause-input g c =
-    failed-answers (map (λ b. new_seat ((g.dyn-1.0.entry b.vtable).1.name b.value) ((g.dyn-1.0.entry b.vtable).1.rule b.value)) c.args.reviewers.items) Edit (to_edit c.in-Ok.given.input.settings c.in-Ok-prepare_edit.ensures.prepared.moments) (map (λ (output : Output). output.name) c.in-Ok-prepare_edit.prepared.made.outputs.items) c.in-Err-deliver.stopped c.in-Err-deliver.ensures.stops (g.F.Shelf.files c.args.shelf.now) (edits-given (map (λ b. new_seat ((g.dyn-1.0.entry b.vtable).1.name b.value) ((g.dyn-1.0.entry b.vtable).1.rule b.value)) c.args.reviewers.items) c.in-Ok.given.input.settings c.in-Ok.given.input.problem c.in-Ok.given.edits.items (g.F.Shelf.files c.args.shelf.now) c.in-Ok-prepare_edit.ensures.prepared.moments c.in-Ok.ensures.ok c.in-Ok-prepare_edit.ensures.prepared.are)
+    failed-answers (map (λ b. new_seat ((g.dyn-1.0.entry b.vtable).1.name b.value) ((g.dyn-1.0.entry b.vtable).1.rule b.value)) c.args.reviewers.items) Edit (to_edit c.in-Ok.given.input.settings c.in-Ok-prepare_given.ensures.prepared.moments) (map (λ (output : Output). output.name) c.in-Ok-prepare_given.prepared.made.outputs.items) c.in-Err-deliver.stopped c.in-Err-deliver.ensures.stops (g.F.Shelf.files c.args.shelf.now) (edits-given (map (λ b. new_seat ((g.dyn-1.0.entry b.vtable).1.name b.value) ((g.dyn-1.0.entry b.vtable).1.rule b.value)) c.args.reviewers.items) c.in-Ok.given.input.settings c.in-Ok.given.input.problem c.in-Ok.given.edits.items (g.F.Shelf.files c.args.shelf.now) c.in-Ok-prepare_given.ensures.prepared.moments c.in-Ok.ensures.ok c.in-Ok-prepare_given.ensures.prepared.are)
 
 pub returns-clause-stands : goal.returns-clause-stands
 returns-clause-stands g c =
-    told_then (λ (old now : Files). SameFiles old now × (input_of (map (λ b. new_seat ((g.dyn-1.0.entry b.vtable).1.name b.value) ((g.dyn-1.0.entry b.vtable).1.rule b.value)) c.args.reviewers.items) Edit None old ≡ Ok (to_edit c.in-Ok.given.input.settings c.in-Ok-prepare_edit.ensures.prepared.moments))) (λ (now new : Files). Delivered (texts_in c.in-Ok-prepare_edit.prepared.made.outputs.items) c.in-Ok-prepare_edit.prepared.made.lines.items {T = Unit {0}} (Err c.in-Err-deliver.stopped) now new (g.K.Sink.sent c.args.out.now) (g.K.Sink.sent c.deliver.new.out)) (Stands (map (λ b. new_seat ((g.dyn-1.0.entry b.vtable).1.name b.value) ((g.dyn-1.0.entry b.vtable).1.rule b.value)) c.args.reviewers.items) Edit c.in-Err-deliver.stopped (g.K.Sink.sent c.args.out.now) (g.K.Sink.sent c.deliver.new.out))
-    (λ old now new read w. failed-stands (map (λ b. new_seat ((g.dyn-1.0.entry b.vtable).1.name b.value) ((g.dyn-1.0.entry b.vtable).1.rule b.value)) c.args.reviewers.items) Edit (to_edit c.in-Ok.given.input.settings c.in-Ok-prepare_edit.ensures.prepared.moments) c.in-Ok-prepare_edit.prepared.done (record { texts = texts_in c.in-Ok-prepare_edit.prepared.made.outputs.items; lines = c.in-Ok-prepare_edit.prepared.made.lines.items }) (gives-edits (map (λ b. new_seat ((g.dyn-1.0.entry b.vtable).1.name b.value) ((g.dyn-1.0.entry b.vtable).1.rule b.value)) c.args.reviewers.items) c.in-Ok.given.input.settings c.in-Ok-prepare_edit.ensures.prepared.moments c.in-Ok-prepare_edit.prepared.done (texts_in c.in-Ok-prepare_edit.prepared.made.outputs.items) c.in-Ok-prepare_edit.prepared.made.lines.items c.in-Ok-prepare_edit.ensures.prepared.is) (map (λ (output : Output). output.name) c.in-Ok-prepare_edit.prepared.made.outputs.items) c.in-Err-deliver.stopped c.in-Err-deliver.ensures.stops (g.K.Sink.sent c.args.out.now) (g.K.Sink.sent c.deliver.new.out) old now new read.0 read.1 w)
-    _ _ _ (told_with SameFiles (λ (files : Files). input_of (map (λ b. new_seat ((g.dyn-1.0.entry b.vtable).1.name b.value) ((g.dyn-1.0.entry b.vtable).1.rule b.value)) c.args.reviewers.items) Edit None files ≡ Ok (to_edit c.in-Ok.given.input.settings c.in-Ok-prepare_edit.ensures.prepared.moments)) _ _ c.read_edit_input.ensures.kept (edits-given (map (λ b. new_seat ((g.dyn-1.0.entry b.vtable).1.name b.value) ((g.dyn-1.0.entry b.vtable).1.rule b.value)) c.args.reviewers.items) c.in-Ok.given.input.settings c.in-Ok.given.input.problem c.in-Ok.given.edits.items (g.F.Shelf.files c.args.shelf.now) c.in-Ok-prepare_edit.ensures.prepared.moments c.in-Ok.ensures.ok c.in-Ok-prepare_edit.ensures.prepared.are)) c.in-Err-deliver.ensures.stands
+    told_then (λ (old now : Files). SameFiles old now × (input_of (map (λ b. new_seat ((g.dyn-1.0.entry b.vtable).1.name b.value) ((g.dyn-1.0.entry b.vtable).1.rule b.value)) c.args.reviewers.items) Edit None old ≡ Ok (to_edit c.in-Ok.given.input.settings c.in-Ok-prepare_given.ensures.prepared.moments))) (λ (now new : Files). Delivered (texts_in c.in-Ok-prepare_given.prepared.made.outputs.items) c.in-Ok-prepare_given.prepared.made.lines.items {T = Unit {0}} (Err c.in-Err-deliver.stopped) now new (g.K.Sink.sent c.args.out.now) (g.K.Sink.sent c.deliver.new.out)) (Stands (map (λ b. new_seat ((g.dyn-1.0.entry b.vtable).1.name b.value) ((g.dyn-1.0.entry b.vtable).1.rule b.value)) c.args.reviewers.items) Edit c.in-Err-deliver.stopped (g.K.Sink.sent c.args.out.now) (g.K.Sink.sent c.deliver.new.out))
+    (λ old now new read w. failed-stands (map (λ b. new_seat ((g.dyn-1.0.entry b.vtable).1.name b.value) ((g.dyn-1.0.entry b.vtable).1.rule b.value)) c.args.reviewers.items) Edit (to_edit c.in-Ok.given.input.settings c.in-Ok-prepare_given.ensures.prepared.moments) c.in-Ok-prepare_given.prepared.done (record { texts = texts_in c.in-Ok-prepare_given.prepared.made.outputs.items; lines = c.in-Ok-prepare_given.prepared.made.lines.items }) (gives-edits (map (λ b. new_seat ((g.dyn-1.0.entry b.vtable).1.name b.value) ((g.dyn-1.0.entry b.vtable).1.rule b.value)) c.args.reviewers.items) c.in-Ok.given.input.settings c.in-Ok-prepare_given.ensures.prepared.moments c.in-Ok-prepare_given.prepared.done (texts_in c.in-Ok-prepare_given.prepared.made.outputs.items) c.in-Ok-prepare_given.prepared.made.lines.items c.in-Ok-prepare_given.ensures.prepared.is) (map (λ (output : Output). output.name) c.in-Ok-prepare_given.prepared.made.outputs.items) c.in-Err-deliver.stopped c.in-Err-deliver.ensures.stops (g.K.Sink.sent c.args.out.now) (g.K.Sink.sent c.deliver.new.out) old now new read.0 read.1 w)
+    _ _ _ (told_with SameFiles (λ (files : Files). input_of (map (λ b. new_seat ((g.dyn-1.0.entry b.vtable).1.name b.value) ((g.dyn-1.0.entry b.vtable).1.rule b.value)) c.args.reviewers.items) Edit None files ≡ Ok (to_edit c.in-Ok.given.input.settings c.in-Ok-prepare_given.ensures.prepared.moments)) _ _ c.read_edit_input.ensures.kept (edits-given (map (λ b. new_seat ((g.dyn-1.0.entry b.vtable).1.name b.value) ((g.dyn-1.0.entry b.vtable).1.rule b.value)) c.args.reviewers.items) c.in-Ok.given.input.settings c.in-Ok.given.input.problem c.in-Ok.given.edits.items (g.F.Shelf.files c.args.shelf.now) c.in-Ok-prepare_given.ensures.prepared.moments c.in-Ok.ensures.ok c.in-Ok-prepare_given.ensures.prepared.are)) c.in-Err-deliver.ensures.stands
 
 pub returns-clause-read_fault : goal.returns-clause-read_fault
 returns-clause-read_fault g c =
-    failed-reads (map (λ (output : Output). output.name) c.in-Ok-prepare_edit.prepared.made.outputs.items) c.in-Err-deliver.stopped c.in-Err-deliver.ensures.stops _
+    failed-reads (map (λ (output : Output). output.name) c.in-Ok-prepare_given.prepared.made.outputs.items) c.in-Err-deliver.stopped c.in-Err-deliver.ensures.stops _
 
 pub returns-clause-write_fault : goal.returns-clause-write_fault
 returns-clause-write_fault g c =
-    failed-writes Edit (map (λ (output : Output). output.name) c.in-Ok-prepare_edit.prepared.made.outputs.items) (edit-names-within (map (λ b. new_seat ((g.dyn-1.0.entry b.vtable).1.name b.value) ((g.dyn-1.0.entry b.vtable).1.rule b.value)) c.args.reviewers.items) c.in-Ok.given.input.settings c.in-Ok-prepare_edit.ensures.prepared.moments c.in-Ok-prepare_edit.prepared.done (texts_in c.in-Ok-prepare_edit.prepared.made.outputs.items) c.in-Ok-prepare_edit.prepared.made.lines.items c.in-Ok-prepare_edit.ensures.prepared.is (map (λ (output : Output). output.name) c.in-Ok-prepare_edit.prepared.made.outputs.items) (names_in c.in-Ok-prepare_edit.prepared.made.outputs.items)) c.in-Err-deliver.stopped c.in-Err-deliver.ensures.stops _ _ _ _ c.read_edit_input.ensures.later c.in-Err-deliver.ensures.cause
+    failed-writes Edit (map (λ (output : Output). output.name) c.in-Ok-prepare_given.prepared.made.outputs.items) (edit-names-within (map (λ b. new_seat ((g.dyn-1.0.entry b.vtable).1.name b.value) ((g.dyn-1.0.entry b.vtable).1.rule b.value)) c.args.reviewers.items) c.in-Ok.given.input.settings c.in-Ok-prepare_given.ensures.prepared.moments c.in-Ok-prepare_given.prepared.done (texts_in c.in-Ok-prepare_given.prepared.made.outputs.items) c.in-Ok-prepare_given.prepared.made.lines.items c.in-Ok-prepare_given.ensures.prepared.is (map (λ (output : Output). output.name) c.in-Ok-prepare_given.prepared.made.outputs.items) (names_in c.in-Ok-prepare_given.prepared.made.outputs.items)) c.in-Err-deliver.stopped c.in-Err-deliver.ensures.stops _ _ _ _ c.read_edit_input.ensures.later c.in-Err-deliver.ensures.cause
 
 pub returns-clause-balanced : goal.returns-clause-balanced
 returns-clause-balanced g c e =
-    absurd (subst IsStop e (is-stop (map (λ (output : Output). output.name) c.in-Ok-prepare_edit.prepared.made.outputs.items) c.in-Err-deliver.stopped c.in-Err-deliver.ensures.stops))
+    absurd (subst IsStop e (is-stop (map (λ (output : Output). output.name) c.in-Ok-prepare_given.prepared.made.outputs.items) c.in-Err-deliver.stopped c.in-Err-deliver.ensures.stops))
 
 pub returns-clause-infeasible : goal.returns-clause-infeasible
 returns-clause-infeasible g c e =
-    absurd (subst IsStop e (is-stop (map (λ (output : Output). output.name) c.in-Ok-prepare_edit.prepared.made.outputs.items) c.in-Err-deliver.stopped c.in-Err-deliver.ensures.stops))
+    absurd (subst IsStop e (is-stop (map (λ (output : Output). output.name) c.in-Ok-prepare_given.prepared.made.outputs.items) c.in-Err-deliver.stopped c.in-Err-deliver.ensures.stops))
 
 pub returns-clause-used : goal.returns-clause-used
 returns-clause-used g c e =
-    absurd (subst IsStop e (is-stop (map (λ (output : Output). output.name) c.in-Ok-prepare_edit.prepared.made.outputs.items) c.in-Err-deliver.stopped c.in-Err-deliver.ensures.stops))
+    absurd (subst IsStop e (is-stop (map (λ (output : Output). output.name) c.in-Ok-prepare_given.prepared.made.outputs.items) c.in-Err-deliver.stopped c.in-Err-deliver.ensures.stops))
