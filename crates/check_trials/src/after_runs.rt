@@ -1,12 +1,12 @@
 //! What a run has written, checked on the same shelf.
 
-use crate::written::{GAP, ends, words_of};
+use crate::written::{GAP, ends};
 use std::alloc::Global;
 use std::process::Abort;
 use std::test::Fail;
 use sut_outside::{FileName, MemorySink};
 use sut_run::run;
-use trial_shelf::{FLAT, SMALL, SOURCE_HEADER, steady};
+use trial_shelf::{FINALS, FLAT, SMALL, SOURCE_HEADER, joined, steady, words_of};
 
 /// Whether a run with the word `balance` over these files ends with this number, and then the check does, and prints these
 /// lines.
@@ -30,8 +30,7 @@ type Case = (&'static str, &'static str, &'static str, u8, &'static str);
 
 fn check(rt: &impl Abort, alloc: Global, cases: &[Case]) -> Result<(), Fail> {
     for (settings, classes, rows, code, printed) in cases {
-        let mut source = String::from_str(alloc, SOURCE_HEADER)?;
-        source.push_str(rows)?;
+        let source = joined(alloc, SOURCE_HEADER, rows)?;
         let files = [
             (FileName::SettingsToml, *settings),
             (FileName::ClassesCsv, *classes),
@@ -45,9 +44,6 @@ fn check(rt: &impl Abort, alloc: Global, cases: &[Case]) -> Result<(), Fail> {
 /// A product G, and a product T that makes the services of the margin TR.
 const TRADE: &str =
     "axis,code,kind\nmargin,TR,\nproduct,G,plain\nproduct,T,TR\nindustry,A,\nindustry,B,\nfinal,F,\nitem,V,\n";
-
-/// Two final uses.
-const FINALS: &str = "axis,code,kind\nproduct,X,plain\nindustry,A,\nfinal,F,\nfinal,E,\nitem,V,\n";
 
 /// A tax and a subsidy.
 const TAXES: &str =

@@ -1,10 +1,11 @@
 //! Made years: made twice alike, and found least once they are balanced under the names that are read.
 
-use crate::written::{ends, words_of};
+use crate::written::ends;
 use std::alloc::Global;
 use std::test::Fail;
 use sut_outside::{FileName, MemoryShelf, MemorySink, Shelf, SteadyShelf};
 use sut_run::{Status, run};
+use trial_shelf::words_of;
 
 /// The files of a made year, each with the name under which it is read.
 const MADE: [(FileName, FileName); 3] = [

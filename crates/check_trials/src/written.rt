@@ -5,7 +5,7 @@ use std::process::Abort;
 use std::test::Fail;
 use sut_check::{CheckStatus, check_run};
 use sut_outside::{FileName, MemorySink, Shelf, Sink, SteadyShelf};
-use trial_shelf::{FLAT, SMALL, steady};
+use trial_shelf::{FLAT, SMALL, steady, words_of};
 
 /// Supply and use that are 4 apart.
 pub(crate) const GAP: &str =
@@ -34,15 +34,6 @@ pub(crate) fn replaced(alloc: Global, text: &str, old: &str, new: &str) -> Resul
     other.push_str(new)?;
     other.push_str(tail)?;
     Ok(other)
-}
-
-/// The words of a command.
-pub(crate) fn words_of(alloc: Global, words: &[&str]) -> Result<Vec<String>, Fail> {
-    let mut list = Vec::new(alloc);
-    for word in words {
-        list.push(String::from_str(alloc, word)?)?;
-    }
-    Ok(list)
 }
 
 /// How the check with these words ends.

@@ -10,14 +10,13 @@ use sut_outside::{FileName, MemorySink, SteadyShelf};
 use sut_review::{AtBound, FarFrom, Reviewer};
 use sut_run::run;
 use trial_shelf::realistic::FILES;
-use trial_shelf::{FLAT, SMALL, SOURCE_HEADER, steady};
+use trial_shelf::{FLAT, SMALL, SOURCE_HEADER, joined, steady, words_of};
 
 /// The settings and rows of a year of one product, and the lines of its review.
 type Case = (&'static str, &'static str, &'static str);
 
 fn shelf_with(alloc: Global, settings: &str, rows: &str) -> Result<SteadyShelf, Fail> {
-    let mut source = String::from_str(alloc, SOURCE_HEADER)?;
-    source.push_str(rows)?;
+    let source = joined(alloc, SOURCE_HEADER, rows)?;
     let files = [
         (FileName::SettingsToml, settings),
         (FileName::ClassesCsv, SMALL),
@@ -34,11 +33,11 @@ fn balance(
 ) -> Result<(), Fail>
     requires { All (λ b. marked b ≡ 0) reviewers.items }
 {
-    let words = match one_word(alloc) {
+    let words = match words_of(alloc, &["balance"]) {
         Ok(words) => words,
-        Err(fail) => {
+        Err(_) => {
             drop(reviewers);
-            return Err(fail);
+            return Err("words".into());
         }
     };
     let mut out = match MemorySink::new(alloc, 1000, Vec::new(alloc)) {
@@ -50,12 +49,6 @@ fn balance(
     };
     let _status = run(alloc, &words, shelf, &mut out, reviewers);
     Ok(())
-}
-
-fn one_word(alloc: Global) -> Result<Vec<String>, Fail> {
-    let mut words = Vec::new(alloc);
-    words.push(String::from_str(alloc, "balance")?)?;
-    Ok(words)
 }
 
 /// Balances before the program's two rules, the second at so many percent.

@@ -5,6 +5,7 @@ use std::alloc::Global;
 use std::process::Abort;
 use std::test::Fail;
 use sut_outside::{FileName, MemorySink};
+use trial_shelf::FINALS;
 
 /// A year, the printed lines of its run, and the lines with which `balanced.csv` begins: those of the cells.
 #[derive(Clone, Copy)]
@@ -21,9 +22,6 @@ const HEADER: &str = "kind,a,b,c,target,value\n";
 /// A product G, and a product T that makes the services of the margin TR.
 const TRADE: &str =
     "axis,code,kind\nmargin,TR,\nproduct,G,plain\nproduct,T,TR\nindustry,A,\nindustry,B,\nfinal,F,\nitem,V,\n";
-
-/// Two final uses.
-const FINALS: &str = "axis,code,kind\nproduct,X,plain\nindustry,A,\nfinal,F,\nfinal,E,\nitem,V,\n";
 
 /// A tax and a subsidy.
 const TAXES: &str =

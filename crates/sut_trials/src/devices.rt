@@ -134,9 +134,11 @@ fn failing_put(rt: HostRuntime) -> Result<(), Fail> {
 // Words that are no command: no call on the shelf or the sink.
 #[test]
 fn no_command(rt: HostRuntime) -> Result<(), Fail> {
-    let cases: [&[&str]; 5] = [
+    let cases: [&[&str]; 7] = [
         &[],
         &["balance", "now"],
+        &["edit", "balance"],
+        &["Edit"],
         &["now"],
         &["Balance"],
         &["--help"],

@@ -4,6 +4,7 @@ use std::alloc::Global;
 use std::process::Abort;
 use std::test::Fail;
 use sut_classes::{Axis, ClassFault};
+use sut_edits::{EditsCause, EditsFault};
 use sut_measures::Field;
 use sut_outside::FileName;
 use sut_run::Status;
@@ -165,6 +166,39 @@ fn faults_of_rows(rt: HostRuntime) -> Result<(), Fail> {
     for (cause, text) in cases {
         let fault = SourceFault { line: 2, cause };
         check(&rt, rt.alloc(), &[(Status::BadSource(fault), 7, text)])?;
+    }
+    Ok(())
+}
+
+#[test]
+fn faults_of_edits(rt: HostRuntime) -> Result<(), Fail> {
+    let cases = [
+        (EditsCause::Csv, "sut: edits.csv line 2: csv\n"),
+        (EditsCause::Header, "sut: edits.csv line 2: header\n"),
+        (
+            EditsCause::UnknownEdit,
+            "sut: edits.csv line 2: unknown-edit\n",
+        ),
+        (
+            EditsCause::NotEmpty(Field::Kind),
+            "sut: edits.csv line 2: not-empty kind\n",
+        ),
+        (
+            EditsCause::BadRow(RowFault::OutOfRange(Field::Upper)),
+            "sut: edits.csv line 2: bad-row out-of-range upper\n",
+        ),
+        (EditsCause::TooMany, "sut: edits.csv line 2: too-many\n"),
+        (EditsCause::NoRow, "sut: edits.csv line 2: no-row\n"),
+        (EditsCause::RowThere, "sut: edits.csv line 2: row-there\n"),
+        (EditsCause::Full, "sut: edits.csv line 2: full\n"),
+        (
+            EditsCause::NoReviewer,
+            "sut: edits.csv line 2: no-reviewer\n",
+        ),
+    ];
+    for (cause, text) in cases {
+        let fault = EditsFault { line: 2, cause };
+        check(&rt, rt.alloc(), &[(Status::BadEdits(fault), 8, text)])?;
     }
     Ok(())
 }

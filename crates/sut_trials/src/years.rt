@@ -4,7 +4,8 @@ use std::alloc::Global;
 use std::test::Fail;
 use sut_outside::{FileName, MemoryShelf, Shelf, Sink, SteadyShelf};
 use sut_run::{Status, run};
-pub(crate) use trial_shelf::{FLAT, SMALL, SOURCE_HEADER};
+use trial_shelf::words_of;
+pub(crate) use trial_shelf::{FLAT, SMALL, SOURCE_HEADER, joined};
 
 /// Supply and use that are 4 apart.
 pub(crate) const GAP: &str = "make,X,A,,100,,,\nbasic,X,F,,104,,,\nadded,V,A,,,,0,1000\n";
@@ -15,12 +16,6 @@ pub(crate) struct Year<'a> {
     pub settings: &'a str,
     pub classes: &'a str,
     pub rows: &'a str,
-}
-
-pub(crate) fn joined(alloc: Global, head: &str, rest: &str) -> Result<String, Fail> {
-    let mut text = String::from_str(alloc, head)?;
-    text.push_str(rest)?;
-    Ok(text)
 }
 
 /// A shelf with the files of the year, which never fails.
@@ -54,9 +49,6 @@ pub(crate) fn ends<F: Shelf, K: Sink>(
     shelf: &mut F,
     out: &mut K,
 ) -> Result<Status, Fail> {
-    let mut list = Vec::new(alloc);
-    for word in words {
-        list.push(String::from_str(alloc, word)?)?;
-    }
+    let list = words_of(alloc, words)?;
     Ok(run(alloc, &list, shelf, out, Vec::new(alloc)))
 }
