@@ -1,6 +1,7 @@
 #!/usr/bin/env bash
-# Measures CPU seconds and peak memory of `sut balance` and `sutcheck` on made years and on contradictions of them, and prints
-# the tables of docs/PERFORMANCE.md. Where `perf` is there, it tells too which crates the time of a balance goes to.
+# Measures CPU seconds and peak memory of `sut balance` and `sutcheck` on made years and on contradictions of them, and of
+# `sut edit` on small edits of these years, and prints the tables of docs/PERFORMANCE.md. Where `perf` is there, it tells too
+# which crates the time of a balance goes to.
 # usage: docs/figures.sh FOLDER [SEED,PRODUCTS,INDUSTRIES ..]
 # FOLDER holds the two programs, or is the top of a repository that has built them.
 set -eu
@@ -45,6 +46,19 @@ gdp_too_high() {
         END { print "gdp", "", "", "", sum + 1, "", sum + 1, sum + 1 }'
 }
 
+# Edits of a year that balance it, and then fifteen times move the target of its first row up by 1 and balance the rows again,
+# the last time at the end.
+fifteen_moves() {
+    awk -F, -v OFS=, '
+        NR == 1 { print "edit," $0; print "balance,,,,,,,," }
+        NR == 2 {
+            for (k = 1; k <= 15; k++) {
+                print "set", $1, $2, $3, $4, $5 + k, $6, $7, $8
+                if (k < 15) print "balance,,,,,,,,"
+            }
+        }'
+}
+
 # The shares of the CPU time of a balance, by the crates that its functions stand in.
 shares() {
     perf record -q -o "$work/perf" "$sut" balance >"$work/said" 2>&1 || return 0
@@ -78,6 +92,16 @@ for year; do
                 "$([ "$command" = "$sutcheck" ] && echo sutcheck || echo sut balance)" "$(measured $command)"
         done
     done
+done
+printf '\n| year | rows | sut balance, CPU s | sut edit, CPU s | peak MB | each of fifteen, ms |\n|---|---|---|---|---|---|\n'
+for year; do
+    cd "$work/$year"
+    fifteen_moves <source.csv >edits.csv
+    once=$(measured "$sut" balance)
+    often=$(measured "$sut" edit)
+    each=$(awk -v once="${once%% *}" -v often="${often%% *}" 'BEGIN { printf "%.1f", (often - once) / 15 * 1000 }')
+    printf '| %s | %s | %s | %s | %s | %s |\n' "${year//,/ }" "$(($(wc -l <source.csv) - 1))" "${once%% *}" "${often%% *}" \
+        "$(printf '%s' "$often" | cut -d '|' -f 2 | tr -d ' ')" "$each"
 done
 if command -v perf >/dev/null; then
     printf '\n| year | where the time of a balance goes |\n|---|---|\n'
