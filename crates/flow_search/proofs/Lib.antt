@@ -1,5 +1,7 @@
 pub mod Endings
+pub mod Heaps
 pub mod Labelled
+pub mod Lists
 pub mod Ready
 pub mod Touching
 pub mod Ways

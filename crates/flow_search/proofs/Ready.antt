@@ -1,20 +1,11 @@
--- What needs no offer, and what nothing was offered yet.
-use Rattle.std.proofs.Common.{◌≡◌, ℕ, Bool, if◌then◌else◌, List, slice_get, sym, subst, ◌∙◌, arith, ℤ, pos}
+-- What needs no offer.
+use Rattle.std.proofs.Common.{◌≡◌, ℕ, Bool, if◌then◌else◌, slice_get, sym, subst, ◌∙◌, arith, ℤ}
 use Rattle.std.specs.Prelude.{IsSomeAnd}
 use Rattle.std.proofs.lemmas.Int.{ints}
-use Rattle.flow_graph.specs.declared.arcs.NodeId.{NodeId}
 use Rattle.flow_residual.specs.Flows.{Flow, MeetsAll}
 use Rattle.flow_search.specs.Labels.{Labels, distance, RelaxesMove}
-use Rattle.flow_search.specs.Frontier.{IsReachedWithin, HasReady}
+use Rattle.flow_search.specs.Frontier.{IsReachedWithin}
 use Rattle.flow_search.proofs.Ways.{edge_long}
-
--- at the start no node is ready
-pub none_ready : (l : Labels) (nodes : List NodeId) → HasReady l nodes 0
-none_ready l nodes = record {
-  at = pos 0;
-  ready = record { counted = omega arith; within = λ i h. absurd (omega (arith, h)); reached = λ i h. absurd (omega (arith, h)); near = λ i h. absurd (omega (arith, h)) };
-  far = λ v r w. r.nonneg;
-}
 
 -- no edge brings a node nearer that is no further than the node that the edge leaves
 pub near_relaxed : {N A C : Type 0} (value : C → ℤ → ℤ) (step : ℤ) (s : Flow N A C) (l : Labels) (u a v : ℕ) (up : Bool) → MeetsAll value step s →

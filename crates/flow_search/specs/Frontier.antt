@@ -1,9 +1,12 @@
 -- What the four functions of a frontier do to the labels.
-use Rattle.std.specs.Prelude.{◌≡◌, ℕ, ◌<◌, ◌≤◌, Bool, true, false, List, ℤ, pos, negsuc, ◌≤ℤ◌, ◌<ℤ◌, ◌⊎◌, Option, Some, None, length, replicate, slice_set, slice_index_or}
+use Rattle.std.specs.Prelude.{◌≡◌, ℕ, ◌+◌, ◌-◌, ◌<◌, ◌≤◌, Bool, true, false, List, ℤ, pos, negsuc, ◌≤ℤ◌, ◌<ℤ◌, ◌⊎◌, Option, Some, None, length, count_by, replicate, slice_set, slice_index_or}
 use Rattle.flow_graph.specs.declared.arcs.ArcId.{ArcId}
 use Rattle.flow_graph.specs.declared.arcs.NodeId.{NodeId}
 use Rattle.flow_graph.specs.Contradiction.{in_set}
 use Rattle.flow_residual.specs.Gaps.{node_at}
+use Rattle.flow_residual.specs.declared.rooms.Room.{Room}
+use Rattle.flow_search.specs.declared.frontier.Waiting.{Waiting}
+use Rattle.flow_search.specs.Heap.{key_at, IsQueue, IsAmong}
 use Rattle.flow_search.specs.Labels.{Labels, distance, IsReached, IsDone}
 
 -- nothing is settled, and the source alone is reached
@@ -60,22 +63,55 @@ IsBest set dist n None = (v : ℕ) → v < n → IsWaiting set dist v → ⊥
 IsBest set dist n (Some u) =
     (u < n) × IsWaiting set dist u × ((v : ℕ) → v < n → IsWaiting set dist v → slice_index_or dist u (negsuc 0) ≤ℤ slice_index_or dist v (negsuc 0))
 
--- the node is one of the first of these, so many of them
-abbrev pub IsAmong : List NodeId → ℕ → ℕ → Type 0
-IsAmong nodes count v = (j : ℕ) × (j < count) × (node_at nodes j ≡ v)
+-- a distance of a node that was reached
+abbrev pub is_reached : ℤ → Bool
+is_reached (pos n) = true
+is_reached (negsuc n) = false
 
--- the first of these nodes, so many of them, were reached and are no further than this
-pub record AreReady (l : Labels) (nodes : List NodeId) (count : ℕ) (at : ℤ) : Type 0 where
+-- the list of ready nodes is kept from the end of the room's list on
+abbrev pub ready_at : List NodeId → ℕ → ℕ
+ready_at nodes j = node_at nodes (length nodes - (j + 1))
+
+-- the node is one of so many ready ones
+abbrev pub IsAmongReady : List NodeId → ℕ → ℕ → Type 0
+IsAmongReady nodes count v = (j : ℕ) × (j < count) × (ready_at nodes j ≡ v)
+
+-- so many nodes are ready: they were reached and are no further than this
+pub record AreReady (dist : List ℤ) (nodes : List NodeId) (count : ℕ) (at : ℤ) : Type 0 where
   pub counted : count ≤ length nodes
-  pub within : (i : ℕ) → i < count → node_at nodes i < length l.set
-  pub reached : (i : ℕ) → i < count → IsReached l (node_at nodes i)
-  pub near : (i : ℕ) → i < count → distance l (node_at nodes i) ≤ℤ at
+  pub within : (j : ℕ) → j < count → ready_at nodes j < length dist
+  pub near : (j : ℕ) → j < count → IsReachedWithin at (slice_index_or dist (ready_at nodes j) (negsuc 0))
 
--- no node that waits is nearer than these
-pub record HasReady (l : Labels) (nodes : List NodeId) (count : ℕ) : Type 0 where
+-- the two lists: a heap from the front on, and the ready nodes from the end on. No node was added but when it was reached first
+pub record AreKept (dist : List ℤ) (nodes : List NodeId) (places : List ℕ) (w : Waiting) (at : ℤ) : Type 0 where
+  pub sized : length nodes ≡ length dist
+  pub sized_places : length places ≡ length dist
+  pub queue : IsQueue dist nodes places w.heaped
+  pub reached : (i : ℕ) → i < w.heaped → pos 0 ≤ℤ key_at dist nodes i
+  pub ready : AreReady dist nodes w.ready at
+  pub added : w.heaped + w.ready ≤ count_by is_reached dist
+
+-- the node is in one of the lists
+abbrev pub IsListed : List NodeId → Waiting → ℕ → Type 0
+IsListed nodes w v = IsAmong nodes w.heaped v ⊎ IsAmongReady nodes w.ready v
+
+-- each node that waits is in one of the lists
+pub record AreListed (set : List Bool) (dist : List ℤ) (nodes : List NodeId) (places : List ℕ) (w : Waiting) (at : ℤ) : Type 0 where
+  pub kept : AreKept dist nodes places w at
+  pub all : (v : ℕ) → IsWaiting set dist v → IsListed nodes w v
+
+-- no node that waits is nearer than the ready ones
+pub record HasListed (set : List Bool) (dist : List ℤ) (nodes : List NodeId) (places : List ℕ) (w : Waiting) : Type 0 where
   pub at : ℤ
-  pub ready : AreReady l nodes count at
-  pub far : (v : ℕ) → IsReached l v → in_set l.set v ≡ false → at ≤ℤ distance l v
+  pub listed : AreListed set dist nodes places w at
+  pub far : (v : ℕ) → IsWaiting set dist v → at ≤ℤ slice_index_or dist v (negsuc 0)
+
+-- the same, in a room
+abbrev pub ListsOf : Room → Waiting → ℤ → Type 0
+ListsOf room w at = AreListed room.set.items room.dist.items room.heap.items room.place.items w at
+
+abbrev pub HasLists : Room → Waiting → Type 0
+HasLists room w = HasListed room.set.items room.dist.items room.heap.items room.place.items w
 
 -- how far the potential of a node is raised where a path is found at a distance
 abbrev pub IsGain : ℤ → ℤ → ℤ → Type 0

@@ -1,14 +1,23 @@
-//! The reached nodes that are not settled. Those that are no further than the node settled last are ready: they are listed in
-//! the room's `heap`. Where none is ready, a scan finds the nearest.
-ghost use Rattle.std.specs.Prelude.{◌≡◌, ℕ, ◌+◌, ◌<◌, ◌≤◌, ◌⊎◌, ℤ, pos, false, ◌≤ℤ◌, length, replicate, IsTrue, MatchOption, vec_len};
+//! The reached nodes that are not settled. Those that are no further than the node settled last are ready: they are listed
+//! from the end of the room's `heap` on. The others are a heap from its front on, with the place of each in `place`.
+ghost use Rattle.std.specs.Prelude.{◌≡◌, ℕ, ◌+◌, ◌<◌, ◌≤◌, ◌⊎◌, ℤ, pos, negsuc, false, true, ◌≤ℤ◌, length, replicate, count_by, slice_set, slice_index_or, IsTrue, MatchOption, vec_len};
 ghost use Rattle.flow_residual.specs.Rooms.{IsRoomFor};
 ghost use Rattle.flow_graph.specs.Contradiction.{in_set};
 ghost use Rattle.flow_residual.specs.Gaps.{node_at};
+ghost use Rattle.flow_search.specs.Heap.{IsAmong, IsQueue};
 ghost use Rattle.flow_search.specs.Labels.{labels_of, distance};
-ghost use Rattle.flow_search.specs.Frontier.{at_start, Takes, TakesNone, Declines, Accepts, IsBest, IsAmong, IsReachedWithin, AreReady, HasReady};
+ghost use Rattle.flow_search.specs.Frontier.{at_start, Takes, TakesNone, Declines, Accepts, IsBest, IsReachedWithin, is_reached, ready_at, IsAmongReady, AreKept, IsListed, AreListed, HasListed, ListsOf, HasLists};
 
+use crate::heap::{bring_in, lift, take_first};
 use flow_graph::{ArcId, NodeId};
 use flow_residual::Room;
+
+/// How many nodes are in the heap, and how many are ready.
+#[derive(Clone, Copy)]
+pub(crate) struct Waiting {
+    pub heaped: usize,
+    pub ready: usize,
+}
 
 /// Writes a value into each place.
 fn fill<T: Copy>(xs: &mut [T], value: T)
@@ -20,7 +29,7 @@ fn fill<T: Copy>(xs: &mut [T], value: T)
 }
 
 /// Nothing is settled, and the source is reached.
-pub(crate) fn start(room: &mut Room, source: NodeId)
+fn clear(room: &mut Room, source: NodeId)
     requires room { IsRoomFor (vec_len room.old.set) room.old }
     requires there { source.0 < vec_len room.old.set }
     ensures labels { labels_of room.new ≡ at_start (vec_len room.old.set) source.0 }
@@ -35,44 +44,36 @@ pub(crate) fn start(room: &mut Room, source: NodeId)
     room.source = source;
 }
 
-/// The nearer of the best so far and a node.
-fn nearer(set: &[bool], dist: &[i128], best: Option<usize>, v: usize) -> Option<usize>
-    requires same { length dist.now ≡ length set.now }
-    requires there { v < length set.now }
-    requires best { IsBest set.now dist.now v best }
-    ensures { IsBest set.now dist.now (v + 1) result }
+/// Nothing is settled, and the source is reached. It is ready.
+pub(crate) fn start(room: &mut Room, source: NodeId) -> Waiting
+    requires room { IsRoomFor (vec_len room.old.set) room.old }
+    requires there { source.0 < vec_len room.old.set }
+    ensures labels { labels_of room.new ≡ at_start (vec_len room.old.set) source.0 }
+    ensures lists { HasLists room.new result }
+    ensures source { room.new.source ≡ source }
+    ensures aside { room.new.aside ≡ room.old.aside }
+    ensures room { IsRoomFor (vec_len room.old.set) room.new }
 {
-    if set[v] || dist[v] < 0 {
-        return best;
+    clear(room, source);
+    let last = room.heap.len() - 1;
+    room.heap[last] = source;
+    Waiting {
+        heaped: 0,
+        ready: 1,
     }
-    match best {
-        Some(u) if dist[u] <= dist[v] => best,
-        _ => Some(v),
-    }
-}
-
-/// The nearest node that was reached and is not settled.
-fn nearest(set: &[bool], dist: &[i128]) -> Option<usize>
-    requires { length dist.now ≡ length set.now }
-    ensures { IsBest set.now dist.now (length set.now) result }
-{
-    let mut best = None;
-    for v in 0..set.len() {
-        best = nearer(set, dist, best, v);
-    }
-    best
 }
 
 /// The last of the ready nodes that is not settled, taken off their list with those after it.
 fn pop_ready(set: &[bool], nodes: &[NodeId], ready: &mut usize) -> Option<usize>
     requires counted { ready.old ≤ length nodes.now }
-    requires within { (i : ℕ) → i < ready.old → node_at nodes.now i < length set.now }
+    requires within { (j : ℕ) → j < ready.old → ready_at nodes.now j < length set.now }
     ensures fewer { ready.new ≤ ready.old }
-    ensures popped { MatchOption result (ready.new ≡ 0) (λ u. (ready.new < ready.old) × (u ≡ node_at nodes.now ready.new) × (in_set set.now u ≡ false)) }
+    ensures popped { MatchOption result (ready.new ≡ 0) (λ u. IsAmongReady nodes.now ready.old u × (in_set set.now u ≡ false)) }
+    ensures rest { (v : ℕ) → in_set set.now v ≡ false → IsAmongReady nodes.now ready.old v → IsAmongReady nodes.now ready.new v ⊎ (result ≡ Some v) }
 {
     while *ready > 0 {
+        let u = nodes[nodes.len() - *ready].0 as usize;
         *ready -= 1;
-        let u = nodes[*ready].0 as usize;
         if !set[u] {
             return Some(u);
         }
@@ -80,32 +81,73 @@ fn pop_ready(set: &[bool], nodes: &[NodeId], ready: &mut usize) -> Option<usize>
     None
 }
 
-/// A nearest node that was reached and is not settled: a ready one, or else the nearest of all.
-fn next(room: &Room, ready: &mut usize) -> Option<usize>
-    requires room { IsRoomFor (vec_len room.now.set) room.now }
-    requires ready { HasReady (labels_of room.now) room.now.heap.items ready.old }
-    ensures nearest { IsBest room.now.set.items room.now.dist.items (length room.now.set.items) result }
-    ensures ready { MatchOption result (Unit {0}) (λ u. AreReady (labels_of room.now) room.now.heap.items ready.new (distance (labels_of room.now) u)) }
+/// The first of the heap that is not settled, taken out with those before it.
+fn pop_heap(
+    set: &[bool],
+    dist: &[i128],
+    nodes: &mut [NodeId],
+    place: &mut [u32],
+    heaped: &mut usize,
+) -> Option<usize>
+    requires counted { heaped.old ≤ length nodes.old }
+    requires small { length nodes.old ≤ 262_144 }
+    requires same { length dist.now ≡ length place.old }
+    requires same_set { length dist.now ≡ length set.now }
+    requires queue { IsQueue dist.now nodes.old place.old heaped.old }
+    ensures fewer { heaped.new ≤ heaped.old }
+    ensures queue { IsQueue dist.now nodes.new place.new heaped.new }
+    ensures popped { MatchOption result (heaped.new ≡ 0) (λ u. IsAmong nodes.old heaped.old u × (in_set set.now u ≡ false) × ((v : ℕ) → in_set set.now v ≡ false → IsAmong nodes.old heaped.old v → slice_index_or dist.now u (negsuc 0) ≤ℤ slice_index_or dist.now v (negsuc 0))) }
+    ensures rest { (v : ℕ) → in_set set.now v ≡ false → IsAmong nodes.old heaped.old v → IsAmong nodes.new heaped.new v ⊎ (result ≡ Some v) }
+    ensures no_more { (v : ℕ) → IsAmong nodes.new heaped.new v → IsAmong nodes.old heaped.old v }
 {
-    if let Some(u) = pop_ready(&room.set, &room.heap, ready) {
+    while *heaped > 0 {
+        let u = take_first(dist, nodes, place, heaped).0 as usize;
+        if !set[u] {
+            return Some(u);
+        }
+    }
+    None
+}
+
+/// A nearest node that was reached and is not settled, taken out of its list: a ready one, or else the first of the heap.
+fn next(
+    set: &[bool],
+    dist: &[i128],
+    nodes: &mut [NodeId],
+    place: &mut [u32],
+    waiting: &mut Waiting,
+) -> Option<usize>
+    requires small { length nodes.old ≤ 262_144 }
+    requires same { length dist.now ≡ length set.now }
+    requires lists { HasListed set.now dist.now nodes.old place.old waiting.old }
+    ensures nearest { IsBest set.now dist.now (length set.now) result }
+    ensures lists { MatchOption result (Unit {0}) (λ u. AreListed (slice_set set.now u true) dist.now nodes.new place.new waiting.new (slice_index_or dist.now u (negsuc 0))) }
+{
+    if let Some(u) = pop_ready(set, nodes, &mut waiting.ready) {
         return Some(u);
     }
-    nearest(&room.set, &room.dist)
+    pop_heap(set, dist, nodes, place, &mut waiting.heaped)
 }
 
 /// Settles a nearest node that was reached and is not settled.
-pub(crate) fn take_nearest(room: &mut Room, ready: &mut usize) -> Option<NodeId>
+pub(crate) fn take_nearest(room: &mut Room, waiting: &mut Waiting) -> Option<NodeId>
     requires room { IsRoomFor (vec_len room.old.set) room.old }
     requires small { vec_len room.old.set ≤ 262_144 }
-    requires ready { HasReady (labels_of room.old) room.old.heap.items ready.old }
+    requires lists { HasLists room.old waiting.old }
     ensures taken { MatchOption result (TakesNone (labels_of room.old) (labels_of room.new)) (λ u. Takes (labels_of room.old) (labels_of room.new) u.0) }
     ensures there { MatchOption result (Unit {0}) (λ u. u.0 < vec_len room.old.set) }
-    ensures ready { MatchOption result (Unit {0}) (λ u. AreReady (labels_of room.new) room.new.heap.items ready.new (distance (labels_of room.new) u.0)) }
+    ensures lists { MatchOption result (Unit {0}) (λ u. ListsOf room.new waiting.new (distance (labels_of room.new) u.0)) }
     ensures source { room.new.source ≡ room.old.source }
     ensures aside { room.new.aside ≡ room.old.aside }
     ensures room { IsRoomFor (vec_len room.old.set) room.new }
 {
-    let u = next(room, ready)?;
+    let u = next(
+        &room.set,
+        &room.dist,
+        &mut room.heap,
+        &mut room.place,
+        waiting,
+    )?;
     room.set[u] = true;
     Some(NodeId(u as u32))
 }
@@ -117,23 +159,56 @@ pub(crate) fn is_within(d: i128, at: i128) -> bool
     0 <= d && d <= at
 }
 
-/// Adds a node at the end of a list, or before its last node, where there is room for it.
-fn push(nodes: &mut [NodeId], count: &mut usize, v: NodeId, before_last: bool)
-    requires { count.old ≤ length nodes.old }
-    ensures counted { count.new ≤ length nodes.new }
-    ensures sized { length nodes.new ≡ length nodes.old }
-    ensures pushed { (i : ℕ) → i < count.new → IsAmong nodes.old count.old (node_at nodes.new i) ⊎ (node_at nodes.new i ≡ v.0) }
+/// Whether a node is no further than this.
+fn is_no_further(dist: &[i128], v: NodeId, at: i128) -> bool
+    requires { v.0 < length dist.now }
+    ensures { IsTrue result → slice_index_or dist.now v.0 (negsuc 0) ≤ℤ at }
 {
-    if *count == nodes.len() {
+    dist[v.0 as usize] <= at
+}
+
+/// Adds a node to the ready ones, as the last of them or before the last.
+fn push_ready(nodes: &mut [NodeId], ready: &mut usize, v: NodeId, before_last: bool)
+    requires { ready.old < length nodes.old }
+    ensures more { ready.new ≡ ready.old + 1 }
+    ensures kept { (w : ℕ) → IsAmongReady nodes.old ready.old w ⊎ (w ≡ v.0) → IsAmongReady nodes.new ready.new w }
+    ensures no_more { (w : ℕ) → IsAmongReady nodes.new ready.new w → IsAmongReady nodes.old ready.old w ⊎ (w ≡ v.0) }
+    ensures before { (i : ℕ) → i + ready.new < length nodes.old → node_at nodes.new i ≡ node_at nodes.old i }
+{
+    let last = nodes.len() - *ready;
+    *ready += 1;
+    if before_last && last < nodes.len() {
+        nodes[last - 1] = nodes[last];
+        nodes[last] = v;
         return;
     }
-    if before_last && *count > 0 {
-        nodes[*count] = nodes[*count - 1];
-        nodes[*count - 1] = v;
+    nodes[last - 1] = v;
+}
+
+/// Lists a node that was reached just now: it is ready where it is no further than `at`.
+fn enlist(
+    dist: &[i128],
+    nodes: &mut [NodeId],
+    place: &mut [u32],
+    waiting: &mut Waiting,
+    v: NodeId,
+    at: i128,
+    before_last: bool,
+)
+    requires small { length nodes.old ≤ 262_144 }
+    requires there { v.0 < length dist.now }
+    requires reached { pos 0 ≤ℤ slice_index_or dist.now v.0 (negsuc 0) }
+    requires apart { IsAmong nodes.old waiting.old.heaped v.0 → ⊥ }
+    requires kept { AreKept dist.now nodes.old place.old waiting.old at }
+    requires added { waiting.old.heaped + waiting.old.ready < count_by is_reached dist.now }
+    ensures kept { AreKept dist.now nodes.new place.new waiting.new at }
+    ensures listed { (w : ℕ) → IsListed nodes.old waiting.old w ⊎ (w ≡ v.0) → IsListed nodes.new waiting.new w }
+{
+    if is_no_further(dist, v, at) {
+        push_ready(nodes, &mut waiting.ready, v, before_last);
     } else {
-        nodes[*count] = v;
+        bring_in(dist, nodes, place, &mut waiting.heaped, v);
     }
-    *count += 1;
 }
 
 /// Gives a node a distance and an arc by which it was reached, where that is nearer than before. Answers whether it is.
@@ -143,6 +218,7 @@ fn improve(room: &mut Room, v: NodeId, d: i128, a: ArcId) -> bool
     ensures declines { result ≡ false → Declines (labels_of room.old) (labels_of room.new) v.0 d }
     ensures accepts { IsTrue result → Accepts (labels_of room.old) (labels_of room.new) v.0 d a }
     ensures nodes { room.new.heap ≡ room.old.heap }
+    ensures places { room.new.place ≡ room.old.place }
     ensures source { room.new.source ≡ room.old.source }
     ensures aside { room.new.aside ≡ room.old.aside }
     ensures room { IsRoomFor (vec_len room.old.set) room.new }
@@ -160,7 +236,7 @@ fn improve(room: &mut Room, v: NodeId, d: i128, a: ArcId) -> bool
 /// further than `at` is ready, and is taken next, or after the last of those that are.
 pub(crate) fn offer(
     room: &mut Room,
-    ready: &mut usize,
+    waiting: &mut Waiting,
     v: NodeId,
     d: i128,
     a: ArcId,
@@ -168,19 +244,37 @@ pub(crate) fn offer(
     before_last: bool,
 )
     requires room { IsRoomFor (vec_len room.old.set) room.old }
+    requires small { vec_len room.old.set ≤ 262_144 }
     requires there { v.0 < vec_len room.old.set }
     requires low { pos 0 ≤ℤ d }
-    requires ready { AreReady (labels_of room.old) room.old.heap.items ready.old at }
+    requires lists { ListsOf room.old waiting.old at }
     ensures offered { Declines (labels_of room.old) (labels_of room.new) v.0 d ⊎ Accepts (labels_of room.old) (labels_of room.new) v.0 d a }
-    ensures ready { AreReady (labels_of room.new) room.new.heap.items ready.new at }
+    ensures lists { ListsOf room.new waiting.new at }
     ensures source { room.new.source ≡ room.old.source }
     ensures aside { room.new.aside ≡ room.old.aside }
     ensures room { IsRoomFor (vec_len room.old.set) room.new }
 {
+    let known = room.dist[v.0 as usize] >= 0;
     if !improve(room, v, d, a) {
         return;
     }
-    if d <= at {
-        push(&mut room.heap, ready, v, before_last);
+    if known {
+        lift(
+            &room.dist,
+            &mut room.heap,
+            &mut room.place,
+            waiting.heaped,
+            v,
+        );
+    } else {
+        enlist(
+            &room.dist,
+            &mut room.heap,
+            &mut room.place,
+            waiting,
+            v,
+            at,
+            before_last,
+        );
     }
 }

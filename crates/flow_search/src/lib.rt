@@ -2,6 +2,7 @@
 #![tactic(auto)]
 
 mod frontier;
+mod heap;
 mod pricing;
 mod raising;
 mod relaxing;

@@ -3,13 +3,12 @@ ghost use Rattle.flow_cost.specs.Cost.{IsWithin};
 ghost use Rattle.flow_graph.specs.Condition.{ArePotentials};
 ghost use Rattle.flow_residual.specs.Flows.{IsFlowOf, IsStep, MeetsAll};
 ghost use Rattle.flow_residual.specs.Path.{Move, IsSink};
-ghost use Rattle.flow_residual.specs.Gaps.{node_at};
 ghost use Rattle.flow_residual.specs.Rooms.{IsRoomFor};
 ghost use Rattle.flow_residual.specs.Edges.{slope_limit, length_of};
-ghost use Rattle.flow_search.specs.Frontier.{AreReady};
+ghost use Rattle.flow_search.specs.Frontier.{ListsOf, ready_at};
 ghost use Rattle.flow_search.specs.Labels.{labels_of, distance, IsRelaxing, IsLowered, RelaxesMove, RelaxesAll};
 
-use crate::frontier::{is_within, offer};
+use crate::frontier::{Waiting, is_within, offer};
 use crate::pricing::edge;
 use flow_cost::Cost;
 use flow_graph::{ArcId, Name, NodeId};
@@ -53,10 +52,10 @@ fn is_sink_next<N: Name, A: Name, C: Cost>(
 ) -> bool
     requires step { IsStep step }
     requires counted { ready ≤ length nodes.now }
-    requires there { (i : ℕ) → i < ready → node_at nodes.now i < length s.now.graph.nodes }
+    requires there { (j : ℕ) → j < ready → ready_at nodes.now j < length s.now.graph.nodes }
     ensures { IsTrue result → 0 < ready }
 {
-    ready > 0 && lacks(s, nodes[ready - 1], step)
+    ready > 0 && lacks(s, nodes[nodes.len() - ready], step)
 }
 
 /// The node that a move of the arc enters.
@@ -73,7 +72,7 @@ fn entered<N: Name, A: Name, C: Cost>(s: &State<N, A, C>, a: ArcId, up: bool) ->
 fn relax_move<N: Name, A: Name, C: Cost>(
     s: &State<N, A, C>,
     room: &mut Room,
-    ready: &mut usize,
+    waiting: &mut Waiting,
     u: NodeId,
     a: ArcId,
     up: bool,
@@ -85,12 +84,12 @@ fn relax_move<N: Name, A: Name, C: Cost>(
     requires potentials { ArePotentials (pos (2 * 10 ^ 22)) (length s.now.graph.nodes) s.now.potentials }
     requires condition { MeetsAll C.value_at step s.now }
     requires relaxing { IsRelaxing C.value_at step s.now (labels_of room.old) u.0 }
-    requires ready { AreReady (labels_of room.old) room.old.heap.items ready.old (distance (labels_of room.old) u.0) }
+    requires lists { ListsOf room.old waiting.old (distance (labels_of room.old) u.0) }
     requires room { IsRoomFor (length s.now.graph.nodes) room.old }
     ensures relaxing { IsRelaxing C.value_at step s.now (labels_of room.new) u.0 }
     ensures lowered { IsLowered (labels_of room.old) (labels_of room.new) }
     ensures relaxed { RelaxesMove C.value_at step s.now (labels_of room.new) u.0 (record { arc = a.0; up = up }) }
-    ensures ready { AreReady (labels_of room.new) room.new.heap.items ready.new (distance (labels_of room.new) u.0) }
+    ensures lists { ListsOf room.new waiting.new (distance (labels_of room.new) u.0) }
     ensures source { room.new.source ≡ room.old.source }
     ensures aside { room.new.aside ≡ room.old.aside }
     ensures room { IsRoomFor (length s.now.graph.nodes) room.new }
@@ -102,8 +101,8 @@ fn relax_move<N: Name, A: Name, C: Cost>(
     }
     if let Some((v, price)) = edge(s, u, a, up, step) {
         let d = further(s, u, v, at, price);
-        let before_last = is_sink_next(s, &room.heap, *ready, step);
-        offer(room, ready, v, d, a, at, before_last);
+        let before_last = is_sink_next(s, &room.heap, waiting.ready, step);
+        offer(room, waiting, v, d, a, at, before_last);
     }
 }
 
@@ -111,7 +110,7 @@ fn relax_move<N: Name, A: Name, C: Cost>(
 pub(crate) fn relax<N: Name, A: Name, C: Cost>(
     s: &State<N, A, C>,
     room: &mut Room,
-    ready: &mut usize,
+    waiting: &mut Waiting,
     u: NodeId,
     step: i64,
 )
@@ -120,18 +119,18 @@ pub(crate) fn relax<N: Name, A: Name, C: Cost>(
     requires potentials { ArePotentials (pos (2 * 10 ^ 22)) (length s.now.graph.nodes) s.now.potentials }
     requires condition { MeetsAll C.value_at step s.now }
     requires relaxing { IsRelaxing C.value_at step s.now (labels_of room.old) u.0 }
-    requires ready { AreReady (labels_of room.old) room.old.heap.items ready.old (distance (labels_of room.old) u.0) }
+    requires lists { ListsOf room.old waiting.old (distance (labels_of room.old) u.0) }
     requires room { IsRoomFor (length s.now.graph.nodes) room.old }
     ensures relaxing { IsRelaxing C.value_at step s.now (labels_of room.new) u.0 }
     ensures lowered { IsLowered (labels_of room.old) (labels_of room.new) }
     ensures relaxed { RelaxesAll C.value_at step s.now (labels_of room.new) u.0 }
-    ensures ready { AreReady (labels_of room.new) room.new.heap.items ready.new (distance (labels_of room.new) u.0) }
+    ensures lists { ListsOf room.new waiting.new (distance (labels_of room.new) u.0) }
     ensures source { room.new.source ≡ room.old.source }
     ensures aside { room.new.aside ≡ room.old.aside }
     ensures room { IsRoomFor (length s.now.graph.nodes) room.new }
 {
     for a in s.graph().arcs_at(u) {
-        relax_move(s, room, ready, u, a, true, step);
-        relax_move(s, room, ready, u, a, false, step);
+        relax_move(s, room, waiting, u, a, true, step);
+        relax_move(s, room, waiting, u, a, false, step);
     }
 }

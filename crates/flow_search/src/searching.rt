@@ -49,16 +49,15 @@ pub fn search<N: Name, A: Name, C: Cost>(
 {
     // The graph's limits bound what follows.
     s.graph();
-    start(room, source);
-    let mut ready = 0;
-    while let Some(u) = take_nearest(room, &mut ready) {
+    let mut waiting = start(room, source);
+    while let Some(u) = take_nearest(room, &mut waiting) {
         if lacks(s, u, step) {
             room.last = u;
             let top = room.dist[u.0 as usize];
             raise(s, room, top);
             return Found::Path;
         }
-        relax(s, room, &mut ready, u, step);
+        relax(s, room, &mut waiting, u, step);
     }
     Found::Closed
 }

@@ -27,7 +27,7 @@ loop-a-init g c =
       lowered = same_lowered g.C.Cost.value_at c.args.step c.args.s.now (labels_of c.args.room.now);
       relaxed = λ m v price e. inl (Contains-permutation (arcs_touching c.args.u.0 0 c.args.s.now.graph.arcs) c.into_iter-a-iterator.result (record { 0 = m.arc }) q
           (edge_touches g.C.Cost.value_at (to_z w64 (of_z w64 c.args.step)) c.args.s.now m c.args.u.0 v price e));
-      ready = c.requires.ready;
+      lists = c.requires.lists;
       source = refl;
       aside = refl;
       room = c.requires.room;
@@ -57,7 +57,7 @@ loop-a-preserved g c = record {
   relaxed = next_edges g.C.Cost.value_at (to_z w64 (of_z w64 c.args.step)) c.args.s.now (labels_of c.loop-a.room) (labels_of c.relax_move.new.room) (labels_of c.relax_move-in-loop-a.new.room) c.args.u.0
       c.loop-a.a-iterator c.in-Some.a c.next.new.self c.in-Some.ensures.steps c.loop-a.invariant.relaxing.done c.relax_move.ensures.relaxing.done c.relax_move.ensures.lowered c.relax_move-in-loop-a.ensures.lowered
       c.relax_move.ensures.relaxed c.relax_move-in-loop-a.ensures.relaxed c.loop-a.invariant.relaxed;
-  ready = c.relax_move-in-loop-a.ensures.ready;
+  lists = c.relax_move-in-loop-a.ensures.lists;
   source = c.relax_move-in-loop-a.ensures.source ∙ c.relax_move.ensures.source ∙ c.loop-a.invariant.source;
   aside = c.relax_move-in-loop-a.ensures.aside ∙ c.relax_move.ensures.aside ∙ c.loop-a.invariant.aside;
   room = c.relax_move-in-loop-a.ensures.room;

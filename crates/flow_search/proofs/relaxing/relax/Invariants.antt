@@ -2,7 +2,7 @@ use Rattle.std.proofs.Common.{◌≡◌, ℕ, ◌<◌, length, ℤ, ◌⊎◌, A
 use Rattle.flow_residual.specs.Path.{Move}
 use Rattle.flow_residual.specs.Rooms.{IsRoomFor}
 use Rattle.flow_residual.specs.Edges.{IsEdge}
-use Rattle.flow_search.specs.Frontier.{AreReady}
+use Rattle.flow_search.specs.Frontier.{ListsOf}
 use Rattle.flow_search.specs.Labels.{labels_of, distance, IsRelaxing, IsLowered, IsRelaxed}
 use Rattle.flow_graph.specs.declared.arcs.ArcId.{ArcId}
 use Rattle.flow_search.proofs.relaxing.relax.Given as goal
@@ -13,7 +13,7 @@ invariant-loop-a g l = record {
   relaxing : IsRelaxing g.C.Cost.value_at l.step l.s (labels_of l.room) l.u.0;
   lowered : IsLowered (labels_of l.initial.room) (labels_of l.room);
   relaxed : (m : Move) (v : ℕ) (price : ℤ) → IsEdge g.C.Cost.value_at l.step l.s m l.u.0 v price → Contains l.a-iterator (record { 0 = m.arc }) ⊎ IsRelaxed g.C.Cost.value_at l.step l.s (labels_of l.room) l.u.0 v price;
-  ready : AreReady (labels_of l.room) l.room.heap.items l.ready (distance (labels_of l.room) l.u.0);
+  lists : ListsOf l.room l.waiting (distance (labels_of l.room) l.u.0);
   source : l.room.source ≡ l.initial.room.source;
   aside : l.room.aside ≡ l.initial.room.aside;
   room : IsRoomFor (length l.s.graph.nodes) l.room;

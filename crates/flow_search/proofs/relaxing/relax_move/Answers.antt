@@ -42,8 +42,11 @@ offer_is g c =
 pub offer-requires-clause-low : goal.offer-requires-clause-low
 offer-requires-clause-low g c = (offer_is g c).0
 
-pub offer-requires-clause-ready : goal.offer-requires-clause-ready
-offer-requires-clause-ready g c = let e = offer_is g c in rw e.1 c.requires.ready
+pub offer-requires-clause-small : goal.offer-requires-clause-small
+offer-requires-clause-small g c = omega (arith, c.requires.room.set, c.requires.kept.network.node_limit)
+
+pub offer-requires-clause-lists : goal.offer-requires-clause-lists
+offer-requires-clause-lists g c = let e = offer_is g c in rw e.1 c.requires.lists
 
 all_is : (g : Over) (c : goal.After-offer g) →
     IsRelaxing g.C.Cost.value_at c.args.step c.args.s.now (labels_of c.offer.new.room) c.args.u.0 × IsLowered (labels_of c.args.room.now) (labels_of c.offer.new.room)
@@ -75,8 +78,8 @@ returns-in-Some-clause-lowered g c = (all_is g c).1
 pub returns-in-Some-clause-relaxed : goal.returns-in-Some-clause-relaxed
 returns-in-Some-clause-relaxed g c = (all_is g c).2
 
-pub returns-in-Some-clause-ready : goal.returns-in-Some-clause-ready
-returns-in-Some-clause-ready g c =
+pub returns-in-Some-clause-lists : goal.returns-in-Some-clause-lists
+returns-in-Some-clause-lists g c =
     let x = c.requires.relaxing.explored in
     let near = (x.near c.args.u.0 c.requires.relaxing.done).0 in
     let there : c.args.u.0 < length c.args.s.now.graph.nodes = reached_in (labels_of c.args.room.now) (length c.args.s.now.graph.nodes) c.args.u.0 x.frontier near in
@@ -84,7 +87,7 @@ returns-in-Some-clause-ready g c =
     let read : c.index-at.result.now ≡ distance (labels_of c.args.room.now) c.args.u.0 = get_or_read c.args.room.now.dist.items c.args.u.0 c.index-at.result.now (omega (arith, there, x.frontier.dist)) c.index-at.ensures (negsuc 0) in
     let z : to_z w128 (of_z w128 c.index-at.result.now) ≡ distance (labels_of c.args.room.now) c.args.u.0 = omega (arith, ints, small.low, small.high, read) in
     let same : distance (labels_of c.offer.new.room) c.args.u.0 ≡ distance (labels_of c.args.room.now) c.args.u.0 = (all_is g c).1.done c.args.u.0 c.requires.relaxing.done in
-    rw same (rw z at c.offer.ensures.ready)
+    rw same (rw z at c.offer.ensures.lists)
 
 pub returns-in_default-clause-relaxed : goal.returns-in_default-clause-relaxed
 returns-in_default-clause-relaxed g c = λ v price e. absurd ((rw (to_z-of_z w64 c.args.step c.ranges.step) at c.in_default.ensures.edge) v price e)

@@ -15,19 +15,18 @@ use Rattle.flow_search.specs.Frontier.{IsGain}
 use Rattle.flow_search.proofs.Labelled.{taken, searched_on, more_settled}
 use Rattle.flow_search.proofs.Ways.{started, with_potentials}
 use Rattle.flow_search.proofs.Endings.{ended, end_reached, end_distance, no_sink_reached, set_is_reached}
-use Rattle.flow_search.proofs.Ready.{none_ready}
 use Rattle.flow_search.proofs.searching.search.Goals as goal
 
 pub loop-u-init : goal.loop-u-init
 loop-u-init g c =
     let there : c.args.source.0 < c.args.room.now.set.len = subst (λ z. c.args.source.0 < z) (sym c.requires.room.set) c.requires.source in
     record {
-      room = subst (λ z. IsRoomFor z c.start.new.room) c.requires.room.set c.start.ensures.room;
+      room = subst (λ z. IsRoomFor z c.start-waiting.new.room) c.requires.room.set c.start-waiting.ensures.room;
       state = refl;
-      source = c.start.ensures.source;
-      ready = none_ready (labels_of c.start.new.room) c.start.new.room.heap.items;
-      aside = c.start.ensures.aside;
-      searched = rw (to_z-of_z w64 c.args.step c.ranges.step, c.start.ensures.labels) (started g.C.Cost.value_at c.args.step c.args.s.now c.args.room.now.set.len c.args.source.0 there c.requires.room.set);
+      source = c.start-waiting.ensures.source;
+      lists = c.start-waiting.ensures.lists;
+      aside = c.start-waiting.ensures.aside;
+      searched = rw (to_z-of_z w64 c.args.step c.ranges.step, c.start-waiting.ensures.labels) (started g.C.Cost.value_at c.args.step c.args.s.now c.args.room.now.set.len c.args.source.0 there c.requires.room.set);
     }
 
 pub take_nearest-requires-clause-room : goal.take_nearest-requires-clause-room
@@ -145,7 +144,7 @@ loop-u-preserved g c =
       room = subst (λ z. IsRoomFor (length z.graph.nodes) c.relax.new.room) c.loop-u.invariant.state c.relax.ensures.room;
       state = c.loop-u.invariant.state;
       source = c.relax.ensures.source ∙ c.in-Some.ensures.source ∙ c.loop-u.invariant.source;
-      ready = record { at = distance (labels_of c.relax.new.room) c.in-Some.u.0; ready = c.relax.ensures.ready; far = relaxing.explored.far };
+      lists = record { at = distance (labels_of c.relax.new.room) c.in-Some.u.0; listed = c.relax.ensures.lists; far = λ v k. relaxing.explored.far v (record { nonneg = k.reached }) k.apart };
       aside = c.relax.ensures.aside ∙ c.in-Some.ensures.aside ∙ c.loop-u.invariant.aside;
       searched = searched_on g.C.Cost.value_at (to_z w64 (of_z w64 c.args.step)) c.args.s.now (labels_of c.loop-u.room) (labels_of c.take_nearest.new.room) (labels_of c.relax.new.room) c.in-Some.u.0 c.loop-u.invariant.searched c.in-Some.ensures.taken dry relaxing c.relax.ensures.lowered relaxed;
     }
