@@ -1,5 +1,5 @@
 -- How a heap follows its keys, and its places their nodes, as the nodes at two places are exchanged.
-use Rattle.std.proofs.Common.{◌≡◌, ◌≢◌, ℕ, zero, suc, ◌+◌, ◌-◌, ◌<◌, ◌≤◌, List, length, get_or, set, inl, inr, ap, sym, subst, ◌∙◌, arith, ℤ, negsuc, ◌≤ℤ◌, ◌⊎◌, length-set, get_or-set_same, get_or-set_other}
+use Rattle.std.proofs.Common.{◌≡◌, ◌≢◌, ℕ, zero, suc, ◌+◌, ◌<◌, ◌≤◌, List, length, get_or, set, inl, inr, ap, sym, subst, ◌∙◌, arith, ℤ, negsuc, ◌≤ℤ◌, ◌⊎◌, length-set, get_or-set_same, get_or-set_other}
 use Rattle.std.specs.List.{SwappedAt}
 use Rattle.std.proofs.lemmas.Int.{ints}
 use Rattle.std.proofs.lemmas.Bool.{cases_eq}
