@@ -26,6 +26,10 @@ pub(crate) fn raise<N: Name, A: Name, C: Cost>(s: &mut State<N, A, C>, room: &Ro
     ensures rest { s.new ≡ record s.old { potentials = s.new.potentials } }
     ensures raised { (v : ℕ) → v < length s.old.graph.nodes → IsGain (distance (labels_of room.now) v) top (potential_at s.new v -ℤ potential_at s.old v) }
 {
+    if top == 0 {
+        // Each gain would be 0.
+        return;
+    }
     for v in 0..s.graph().node_count() {
         let up = gain(room.dist[v as usize], top);
         let p = s.potential(NodeId(v));
