@@ -1,7 +1,7 @@
 -- Where the moves that pay end is the nearest place from which neither step pays.
 use Rattle.std.proofs.Common.{◌≡◌, ℕ, zero, suc, ◌+◌, ◌*◌, ◌<◌, ◌≤◌, ℤ, pos, negsuc, ◌+ℤ◌, ◌-ℤ◌, ◌*ℤ◌, neg_ℤ, ◌≤ℤ◌, ◌<ℤ◌, unsigned_abs, inl, inr, refl, arith, ap, sym, ◌∙◌}
 use Rattle.std.proofs.Math.Nat.{mul-le-mul_right}
-use Rattle.std.proofs.Math.IntN.{*ℤ_comm}
+use Rattle.std.proofs.Math.IntN.{*ℤ_comm, zero-*ℤ}
 use Rattle.std.proofs.lemmas.Int.{ints}
 use Rattle.std.proofs.lemmas.Bool.{cases_lt}
 use Rattle.flow_cost.specs.Cost.{IsWithin, IsLawful}
@@ -146,32 +146,49 @@ module _ (value : ℤ → ℤ) (span : ℤ) (law : IsLawful value span) (x lo hi
       near_of zero r pay z p t = omega arith
       near_of (suc d) r pay z p t = nearest_below d z p.by_steps.0 p.by_steps.1 (omega (arith, ints, r, fit)) pay p.above p.below t
 
--- the two cases, at any step from 1 up
+-- the three cases, at any step from 1 up: a step up pays
 pub nearest_up : (value : ℤ → ℤ) (span : ℤ) → IsLawful value span → (x lo hi step slope : ℤ) (up above : ℕ) →
-    lo ≤ℤ x → x ≤ℤ hi → IsWithin span lo → IsWithin span hi → pos 1 ≤ℤ step → 0 < up → up ≤ above →
+    lo ≤ℤ x → x ≤ℤ hi → IsWithin span lo → IsWithin span hi → pos 1 ≤ℤ step → (x +ℤ step) ≤ℤ hi → Pays value step slope x → up ≤ above →
     (pos above *ℤ step) ≤ℤ (hi -ℤ x) → (hi -ℤ x) <ℤ (pos (above + 1) *ℤ step) →
     ((k : ℕ) → k < up → Pays value step slope (place_at x step k)) → (up < above → Stops value step slope (place_at x step up)) →
     IsNearestSettled value x lo hi step slope (place_at x step up)
-nearest_up value span law x lo hi (pos zero) slope up above lx xh wl wh one some l fit most pay stops = absurd (omega (arith, ints))
-nearest_up value span law x lo hi (negsuc n) slope up above lx xh wl wh one some l fit most pay stops = absurd (omega (arith, ints))
-nearest_up value span law x lo hi (pos (suc s)) slope zero above lx xh wl wh one some l fit most pay stops = absurd (omega arith)
-nearest_up value span law x lo hi (pos (suc s)) slope (suc u) above lx xh wl wh one some l fit most pay stops =
+nearest_up value span law x lo hi (pos zero) slope up above lx xh wl wh one room first l fit most pay stops = absurd (omega (arith, ints))
+nearest_up value span law x lo hi (negsuc n) slope up above lx xh wl wh one room first l fit most pay stops = absurd (omega (arith, ints))
+nearest_up value span law x lo hi (pos (suc s)) slope zero zero lx xh wl wh one room first l fit most pay stops = absurd (omega (arith, ints, room, most))
+nearest_up value span law x lo hi (pos (suc s)) slope zero (suc a) lx xh wl wh one room first l fit most pay stops =
+    let e : place_at x (pos (suc s)) 0 ≡ x = omega (arith, ints) in
+    absurd (clash _ _ (pos (suc s) *ℤ slope) first.less refl (rw e at (stops (omega arith)).more))
+nearest_up value span law x lo hi (pos (suc s)) slope (suc u) above lx xh wl wh one room first l fit most pay stops =
     settled_above value span law x lo hi slope s lx xh wl wh u above l fit most pay stops
 
-pub nearest_down : (value : ℤ → ℤ) (span : ℤ) → IsLawful value span → (x lo hi step slope : ℤ) (up above down below : ℕ) →
-    lo ≤ℤ x → x ≤ℤ hi → IsWithin span lo → IsWithin span hi → pos 1 ≤ℤ step → up ≡ 0 →
-    (hi -ℤ x) <ℤ (pos (above + 1) *ℤ step) → (up < above → Stops value step slope (place_at x step up)) → down ≤ below →
+-- none does, and steps down may
+pub nearest_down : (value : ℤ → ℤ) (span : ℤ) → IsLawful value span → (x lo hi step slope : ℤ) (down below : ℕ) →
+    lo ≤ℤ x → x ≤ℤ hi → IsWithin span lo → IsWithin span hi → pos 1 ≤ℤ step →
+    (lo ≤ℤ (x +ℤ step) → (x +ℤ step) ≤ℤ hi → Stops value step slope x) → down ≤ below →
     (pos below *ℤ step) ≤ℤ (x -ℤ lo) → (x -ℤ lo) <ℤ (pos (below + 1) *ℤ step) →
     ((k : ℕ) → k < down → Pays value (neg_ℤ step) slope (place_at x (neg_ℤ step) k)) → (down < below → Stops value (neg_ℤ step) slope (place_at x (neg_ℤ step) down)) →
     IsNearestSettled value x lo hi step slope (place_at x (neg_ℤ step) down)
-nearest_down value span law x lo hi (pos zero) slope up above down below lx xh wl wh one none top stop l fit most pay stops = absurd (omega (arith, ints))
-nearest_down value span law x lo hi (negsuc n) slope up above down below lx xh wl wh one none top stop l fit most pay stops = absurd (omega (arith, ints))
-nearest_down value span law x lo hi (pos (suc s)) slope (suc u) above down below lx xh wl wh one none top stop l fit most pay stops = absurd (omega arith)
-nearest_down value span law x lo hi (pos (suc s)) slope zero zero down below lx xh wl wh one none top stop l fit most pay stops =
-    settled_below value span law x lo hi slope s lx xh wl wh down below l fit most pay stops (λ h. absurd (omega (arith, ints, top)))
-nearest_down value span law x lo hi (pos (suc s)) slope zero (suc a) down below lx xh wl wh one none top stop l fit most pay stops =
-    settled_below value span law x lo hi slope s lx xh wl wh down below l fit most pay stops
-    (λ h. let e : place_at x (pos (suc s)) 0 ≡ x = omega (arith, ints) in rw e at (stop (omega arith)).more)
+nearest_down value span law x lo hi (pos zero) slope down below lx xh wl wh one top l fit most pay stops = absurd (omega (arith, ints))
+nearest_down value span law x lo hi (negsuc n) slope down below lx xh wl wh one top l fit most pay stops = absurd (omega (arith, ints))
+nearest_down value span law x lo hi (pos (suc s)) slope down below lx xh wl wh one top l fit most pay stops =
+    settled_below value span law x lo hi slope s lx xh wl wh down below l fit most pay stops (λ h. (top (omega (arith, ints, lx)) h).more)
+
+-- neither pays
+pub nearest_here : (value : ℤ → ℤ) (x lo hi step slope : ℤ) → lo ≤ℤ x → x ≤ℤ hi → pos 1 ≤ℤ step →
+    (lo ≤ℤ (x +ℤ step) → (x +ℤ step) ≤ℤ hi → Stops value step slope x) →
+    (lo ≤ℤ (x +ℤ neg_ℤ step) → (x +ℤ neg_ℤ step) ≤ℤ hi → Stops value (neg_ℤ step) slope x) →
+    IsNearestSettled value x lo hi step slope x
+nearest_here value x lo hi step slope lx xh one up down =
+    let e : x -ℤ x ≡ pos 0 = omega (arith, ints) in
+    let q : neg_ℤ step *ℤ slope ≡ neg_ℤ (step *ℤ slope) = *ℤ_comm (neg_ℤ step) slope ∙ mul-neg slope step ∙ ap neg_ℤ (*ℤ_comm slope step) in
+    record {
+      place = record { by_steps = (pos 0, omega (arith, ints, zero-*ℤ step)); above = lx; below = xh };
+      settled = record {
+        up = λ h. (up (omega (arith, ints, lx, one)) h).more;
+        down = λ h. down_stops (value (x +ℤ neg_ℤ step)) (value x) (step *ℤ slope) (neg_ℤ step *ℤ slope) (down h (omega (arith, ints, xh, one))).more q;
+      };
+      nearest = λ z p t. rw e (omega arith);
+    }
 
 -- the places that the two calls reach lie within the bounds
 pub up_end : (span x lo hi step : ℤ) (k above : ℕ) → lo ≤ℤ x → x ≤ℤ hi → IsWithin span lo → IsWithin span hi → pos 1 ≤ℤ step → k ≤ above →

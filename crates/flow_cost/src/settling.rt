@@ -142,9 +142,28 @@ fn opposite(step: i64) -> i64
     -step
 }
 
+/// Whether the move from `x` by `by` stays within the bounds and costs less than the slope pays for it.
+fn pays_within<C: Cost>(cost: &C, x: i64, lo: i64, hi: i64, by: i64, slope: i128) -> bool
+    requires from { IsWithin (C.span_of cost.now) x }
+    requires low { IsWithin (C.span_of cost.now) lo }
+    requires high { IsWithin (C.span_of cost.now) hi }
+    requires by { IsWithin (pos (2 ^ 40)) by }
+    requires slope { IsWithin (pos (2 * 10 ^ 24)) slope }
+    ensures fits { IsTrue result → (lo ≤ℤ (x +ℤ by)) × ((x +ℤ by) ≤ℤ hi) }
+    ensures pays { IsTrue result → Pays (C.value_at cost.now) by slope x }
+    ensures stops { result ≡ false → lo ≤ℤ (x +ℤ by) → (x +ℤ by) ≤ℤ hi → Stops (C.value_at cost.now) by slope x }
+{
+    let to = x + by;
+    if to < lo || to > hi {
+        return false;
+    }
+    pays(cost, x, by, slope)
+}
+
 /// The place nearest to `x`, whole steps away and within the bounds, from which no step within the bounds costs less
 /// than the slope pays for it. The bounds lie within the cost's span, the step from 1 to 2^40, and the slope at most
-/// 2 * 10^24 from 0. It looks at a number of places of the order of the logarithm of the number of steps.
+/// 2 * 10^24 from 0. It looks at a number of places of the order of the logarithm of the number of steps, and at the two
+/// neighbours first: where `x` is the answer, nothing is divided.
 pub fn settle<C: Cost>(cost: &C, x: i64, lo: i64, hi: i64, step: i64, slope: i128) -> i64
     requires low { (lo ≤ℤ x) × IsWithin (C.span_of cost.now) lo }
     requires high { (x ≤ℤ hi) × IsWithin (C.span_of cost.now) hi }
@@ -152,13 +171,16 @@ pub fn settle<C: Cost>(cost: &C, x: i64, lo: i64, hi: i64, step: i64, slope: i12
     requires slope { IsWithin (pos (2 * 10 ^ 24)) slope }
     ensures { IsNearestSettled (C.value_at cost.now) x lo hi step slope result }
 {
-    let above = whole_steps(x, hi, step);
-    let up = paying(cost, x, above, step, slope);
-    if up > 0 {
+    if pays_within(cost, x, lo, hi, step, slope) {
+        let above = whole_steps(x, hi, step);
+        let up = paying(cost, x, above, step, slope);
         return place(x, up, step);
     }
-    let below = whole_steps(lo, x, step);
     let back = opposite(step);
-    let down = paying(cost, x, below, back, slope);
-    place(x, down, back)
+    if pays_within(cost, x, lo, hi, back, slope) {
+        let below = whole_steps(lo, x, step);
+        let down = paying(cost, x, below, back, slope);
+        return place(x, down, back);
+    }
+    x
 }
