@@ -1,4 +1,5 @@
 pub mod Endings
+pub mod Followed
 pub mod Heaps
 pub mod Labelled
 pub mod Lists

@@ -144,13 +144,13 @@ module _ {N A C : Type 0} (value : C → ℤ → ℤ) (step : ℤ) (s : Flow N A
     pub tight_from_edge : (m : Move) (u v : ℕ) (price : ℤ) → IsEdge value step s m u v price → (get_or ps v (pos 0) -ℤ get_or ps u (pos 0)) ≡ price → IsTight raised value step m
     tight_from_edge m u v price e t = tight_edge m.up m.arc u v price e t
 
-    open_from_edge : (m : Move) (u v : ℕ) (price : ℤ) → IsEdge value step s m u v price → IsOpen raised step m
+    pub open_from_edge : (m : Move) (u v : ℕ) (price : ℤ) → IsEdge value step s m u v price → IsOpen raised step m
     open_from_edge m u v price e arc c x k =
         let i : e.arc ≡ arc = read_once s.graph.arcs m.arc e.arc arc e.has.arc_is k.arc_is in
         let n : e.number ≡ x = read_once s.flows m.arc e.number x e.has.number_is k.number_is in
         rw (← i, ← n) e.room
 
-    joins_from_edge : (m : Move) (u v : ℕ) (price : ℤ) → IsEdge value step s m u v price → Joins raised m u v
+    pub joins_from_edge : (m : Move) (u v : ℕ) (price : ℤ) → IsEdge value step s m u v price → Joins raised m u v
     joins_from_edge m u v price e = record { arc = e.arc; arc_is = e.has.arc_is; from_is = e.from_is; to_is = e.to_is }
 
     -- ---- the way read from its end to its start, as a path

@@ -1,3 +1,4 @@
+pub mod Following
 pub mod Frontier
 pub mod Heap
 pub mod Labels

@@ -20,7 +20,7 @@ pub(crate) struct Waiting {
 }
 
 /// Writes a value into each place.
-fn fill<T: Copy>(xs: &mut [T], value: T)
+pub(crate) fn fill<T: Copy>(xs: &mut [T], value: T)
     ensures { xs.new ≡ replicate (length xs.old) value }
 {
     for x in xs.iter_mut() {

@@ -15,7 +15,7 @@ use flow_graph::{ArcId, Name, NodeId};
 use flow_residual::{Room, State};
 
 /// How far a node is by way of another.
-fn further<N: Name, A: Name, C: Cost>(
+pub(crate) fn further<N: Name, A: Name, C: Cost>(
     s: &State<N, A, C>,
     u: NodeId,
     v: NodeId,

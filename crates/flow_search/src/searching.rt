@@ -4,7 +4,9 @@ ghost use Rattle.flow_residual.specs.Flows.{IsStep, MeetsAll, excess_of};
 ghost use Rattle.flow_residual.specs.Path.{Move, IsTight, IsSink, Reaches};
 ghost use Rattle.flow_residual.specs.Rooms.{IsRoomFor, HoldsPath};
 
+use crate::following::follow_back;
 use crate::frontier::{start, take_nearest};
+use crate::meeting::meet;
 use crate::raising::raise;
 use crate::relaxing::{lacks, relax};
 use flow_cost::Cost;
@@ -18,6 +20,29 @@ pub enum Found {
     Path,
     /// No such node can be reached.
     Closed,
+}
+
+/// Whether tight moves alone lead to a node that lacks at least the step: then the room holds a path of them.
+fn meets<N: Name, A: Name, C: Cost>(
+    s: &State<N, A, C>,
+    source: NodeId,
+    step: i64,
+    room: &mut Room,
+) -> bool
+    requires room { IsRoomFor (length s.now.graph.nodes) room.old }
+    requires source { source.0 < length s.now.graph.nodes }
+    requires step { IsStep step }
+    requires potentials { ArePotentials (pos (2 * 10 ^ 22)) (length s.now.graph.nodes) s.now.potentials }
+    ensures path { IsTrue result → (ms : List Move) × HoldsPath s.now step room.new ms × All (IsTight s.now C.value_at step) ms }
+    ensures ends { IsTrue result → (room.new.source ≡ source) × (room.new.last.0 < length s.now.graph.nodes) × IsSink s.now step room.new.last.0 }
+    ensures aside { room.new.aside ≡ room.old.aside }
+    ensures room { IsRoomFor (length s.now.graph.nodes) room.new }
+{
+    room.source = source;
+    if !meet(s, room, step) || !lacks(s, room.last, step) {
+        return false;
+    }
+    follow_back(s, room, step)
 }
 
 /// Looks for a nearest node that lacks at least the step, and changes the potentials so that the path there is tight.
@@ -49,6 +74,9 @@ pub fn search<N: Name, A: Name, C: Cost>(
 {
     // The graph's limits bound what follows.
     s.graph();
+    if meets(s, source, step, room) {
+        return Found::Path;
+    }
     let mut waiting = start(room, source);
     while let Some(u) = take_nearest(room, &mut waiting) {
         if lacks(s, u, step) {

@@ -19,15 +19,23 @@ use Rattle.flow_search.proofs.searching.search.Goals as goal
 
 pub loop-u-init : goal.loop-u-init
 loop-u-init g c =
-    let there : c.args.source.0 < c.args.room.now.set.len = subst (λ z. c.args.source.0 < z) (sym c.requires.room.set) c.requires.source in
+    let sized : c.meets.new.room.set.len ≡ length c.args.s.now.graph.nodes = c.meets.ensures.room.set in
+    let there : c.args.source.0 < c.meets.new.room.set.len = subst (λ z. c.args.source.0 < z) (sym sized) c.requires.source in
     record {
-      room = subst (λ z. IsRoomFor z c.start-waiting.new.room) c.requires.room.set c.start-waiting.ensures.room;
+      room = subst (λ z. IsRoomFor z c.start-waiting.new.room) sized c.start-waiting.ensures.room;
       state = refl;
       source = c.start-waiting.ensures.source;
       lists = c.start-waiting.ensures.lists;
-      aside = c.start-waiting.ensures.aside;
-      searched = rw (to_z-of_z w64 c.args.step c.ranges.step, c.start-waiting.ensures.labels) (started g.C.Cost.value_at c.args.step c.args.s.now c.args.room.now.set.len c.args.source.0 there c.requires.room.set);
+      aside = c.start-waiting.ensures.aside ∙ c.meets.ensures.aside;
+      searched = rw (to_z-of_z w64 c.args.step c.ranges.step, c.start-waiting.ensures.labels) (started g.C.Cost.value_at c.args.step c.args.s.now c.meets.new.room.set.len c.args.source.0 there sized);
     }
+
+pub returns-then-meets-clause-closed : goal.returns-then-meets-clause-closed
+returns-then-meets-clause-closed g c =
+    let found = c.meets.ensures.path c.if-meets.true in
+    let ends = c.meets.ensures.ends c.if-meets.true in
+    let way : Reaches c.args.s.now c.args.step c.args.source.0 c.meets.new.room.last.0 = rw (to_z-of_z w64 c.args.step c.ranges.step) at (subst (λ z. Reaches c.args.s.now (to_z w64 (of_z w64 c.args.step)) z.0 c.meets.new.room.last.0) ends.0 (found.0, found.1.path)) in
+    (λ e. absurd (cc), λ h. absurd (h c.meets.new.room.last.0 ends.1 (rw (to_z-of_z w64 c.args.step c.ranges.step) at ends.2) way))
 
 pub take_nearest-requires-clause-room : goal.take_nearest-requires-clause-room
 take_nearest-requires-clause-room g c = subst (λ z. IsRoomFor z c.loop-u.room) (sym c.loop-u.invariant.room.set) c.loop-u.invariant.room
