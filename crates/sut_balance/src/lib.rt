@@ -9,6 +9,6 @@ mod starting;
 #[cfg(test)]
 mod tests;
 
-pub use balancing::{balance, balance_in};
+pub use balancing::{balance, balance_in, balance_over};
 pub use starting::started;
 pub use sut_cert::Answer;

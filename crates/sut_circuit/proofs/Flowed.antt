@@ -1,8 +1,8 @@
 -- The table of a circulation, flow by flow.
-use Rattle.std.proofs.Common.{◌≡◌, ℕ, zero, suc, ℤ, pos, ◌+◌, ◌<◌, ◌≤◌, List, [], ◌∷◌, ◌++◌, length, take, map, set, Some, Bool, true, false, refl, sym, ◌∙◌, ap, subst, add-one}
+use Rattle.std.proofs.Common.{◌≡◌, ℕ, zero, suc, ℤ, pos, ◌+◌, ◌<◌, ◌≤◌, List, [], ◌∷◌, ◌++◌, length, take, map, set, Some, Bool, true, false, ◌||◌, refl, arith, sym, ◌∙◌, ap, subst, add-one}
 use Rattle.std.specs.Prelude.{if◌then◌else◌, slice_get, All, option_map}
-use Rattle.std.proofs.lemmas.List.Elements.{All-head, All-tail}
-use Rattle.std.proofs.lemmas.Option.{slice_get-map}
+use Rattle.std.proofs.lemmas.List.Elements.{All-head, All-tail, All-weaker}
+use Rattle.std.proofs.lemmas.Option.{slice_get-map, slice_get_within, get_or_from_slice_get}
 use Rattle.sut_measures.specs.Keys.{cell_key, measure_key}
 use Rattle.sut_measures.specs.Sums.{same_cell}
 use Rattle.sut_measures.specs.declared.measures.Cell.{Cell}
@@ -10,40 +10,44 @@ use Rattle.sut_measures.specs.declared.measures.Measure.{Measure}
 use Rattle.sut_measures.specs.declared.measures.Measure.TheVariants as measure
 use Rattle.sut_tables.specs.declared.tables.Held.{Held}
 use Rattle.sut_tables.specs.Flows.{held, table_of}
-use Rattle.sut_tables.specs.InOrder.{same_key}
+use Rattle.sut_tables.specs.InOrder.{IsAscending, same_key}
 use Rattle.sut_tables.specs.ProblemFacts.{ProblemFacts}
-use Rattle.sut_tables.specs.Problems.{IsProblem, cell_rows, live_measures}
+use Rattle.sut_tables.specs.Problems.{IsProblem, IsTableOf, cell_rows, live_measures}
 use Rattle.sut_tables.specs.Rows.{InRange}
 use Rattle.sut_tables.specs.TableFacts.{TableFacts}
-use Rattle.sut_tables.specs.Tables.{zeros}
+use Rattle.sut_tables.specs.Tables.{put_number}
 use Rattle.sut_tables.specs.Values.{number_at, value_of}
-use Rattle.sut_tables.proofs.Conservation.{live-sorted, total-cell}
-use Rattle.sut_tables.proofs.HeldCells.{put_in}
+use Rattle.sut_tables.proofs.Conservation.{Sorted-from_ascending, live-sorted, total-cell}
+use Rattle.sut_tables.proofs.Converse.{live-among}
+use Rattle.sut_tables.proofs.Undo.{table_of-same, table_of-values}
+use Rattle.sut_tables.proofs.HeldCells.{key_of, put_in, put-set}
 use Rattle.sut_tables.proofs.Lists.{After-differ}
 use Rattle.std.proofs.lemmas.List.{map-append, take_more_set}
 use Rattle.sut_tables.proofs.LiveCounts.{take-all, take-more}
-use Rattle.sut_tables.proofs.Ordered.{Sorted, same-eq, same-refl, same-flip}
+use Rattle.sut_tables.proofs.Ordered.{Sorted, among, same-eq, same-refl, same-flip}
 use Rattle.sut_tables.proofs.Wide.{numbers-in_range, zero-in_range}
 use Rattle.flow_graph.specs.Circulation.{IsCirculation}
 use Rattle.flow_graph.specs.Network.{Network}
 use Rattle.sut_measures.specs.declared.accounts.Account.{Account}
 use Rattle.sut_circuit.specs.Circuit.{IsCircuitOf, number_in, table_from}
 use Rattle.sut_circuit.specs.TableFlows.{FitsIn, put_flow}
+use Rattle.sut_circuit.proofs.Changed.{set-same}
 use Rattle.sut_circuit.proofs.Circulations.{flows-back, table-admissible}
 use Rattle.sut_circuit.proofs.Places.{some-same, All-at}
 
--- ---- the number of a measure among the first so many
+-- ---- the number of a measure among the first so many, and else what another function tells
 
-number_in-none : (n : Measure) → number_in [] [] n ≡ pos 0
-number_in-none n = refl
+abbrev pub number_over : (Measure → ℤ) → List Measure → List ℤ → Measure → ℤ
+number_over f (m ∷ ms) (x ∷ xs) n = if same_key (measure_key m) (measure_key n) then x else number_over f ms xs n
+number_over f ms xs n = f n
 
-number_in-more : (ms : List Measure) (xs : List ℤ) → Sorted measure_key ms → (k : ℕ) (m : Measure) (x : ℤ) → slice_get ms k ≡ Some m → slice_get xs k ≡ Some x → (n : Measure)
-    → number_in (take (suc k) ms) (take (suc k) xs) n ≡ (if same_key (measure_key m) (measure_key n) then x else number_in (take k ms) (take k xs) n)
-number_in-more [] xs s k m x e f n = absurd cc
-number_in-more (w ∷ ws) [] s k m x e f n = absurd cc
-number_in-more (w ∷ ws) (y ∷ ys) s zero m x e f n = rw (some-same w m e, some-same y x f) refl
-number_in-more (w ∷ ws) (y ∷ ys) s (suc k) m x e f n =
-    by (same_key (measure_key w) (measure_key n)) (same_key (measure_key m) (measure_key n)) refl refl (number_in-more ws ys s.1 k m x e f n)
+over-more : (f : Measure → ℤ) (ms : List Measure) (xs : List ℤ) → Sorted measure_key ms → (k : ℕ) (m : Measure) (x : ℤ) → slice_get ms k ≡ Some m → slice_get xs k ≡ Some x → (n : Measure)
+    → number_over f (take (suc k) ms) (take (suc k) xs) n ≡ (if same_key (measure_key m) (measure_key n) then x else number_over f (take k ms) (take k xs) n)
+over-more f [] xs s k m x e g n = absurd cc
+over-more f (w ∷ ws) [] s k m x e g n = absurd cc
+over-more f (w ∷ ws) (y ∷ ys) s zero m x e g n = rw (some-same w m e, some-same y x g) refl
+over-more f (w ∷ ws) (y ∷ ys) s (suc k) m x e g n =
+    by (same_key (measure_key w) (measure_key n)) (same_key (measure_key m) (measure_key n)) refl refl (over-more f ws ys s.1 k m x e g n)
   where
     differ : same_key (measure_key w) (measure_key m) ≡ false
     differ = All-at (λ z. same_key (measure_key w) (measure_key z) ≡ false) ws k m (After-differ measure_key (measure_key w) ws s.0) e
@@ -56,12 +60,23 @@ number_in-more (w ∷ ws) (y ∷ ys) s (suc k) m x e f n =
         apart e = cc
 
     by : (b d : Bool) → same_key (measure_key w) (measure_key n) ≡ b → same_key (measure_key m) (measure_key n) ≡ d
-        → number_in (take (suc k) ws) (take (suc k) ys) n ≡ (if same_key (measure_key m) (measure_key n) then x else number_in (take k ws) (take k ys) n)
-        → (if b then y else number_in (take (suc k) ws) (take (suc k) ys) n) ≡ (if d then x else (if b then y else number_in (take k ws) (take k ys) n))
+        → number_over f (take (suc k) ws) (take (suc k) ys) n ≡ (if same_key (measure_key m) (measure_key n) then x else number_over f (take k ws) (take k ys) n)
+        → (if b then y else number_over f (take (suc k) ws) (take (suc k) ys) n) ≡ (if d then x else (if b then y else number_over f (take k ws) (take k ys) n))
     by true true h l rest = absurd (both h l)
     by true false h l rest = refl
     by false true h l rest = rest ∙ rw l refl
     by false false h l rest = rest ∙ rw l refl
+
+over-all : (f : Measure → ℤ) (ms : List Measure) (xs : List ℤ) → length ms ≤ length xs → (n : Measure) → among measure_key (measure_key n) ms ≡ true
+    → number_over f ms xs n ≡ number_in ms xs n
+over-all f [] xs l n h = absurd cc
+over-all f (m ∷ ms) [] l n h = absurd (omega arith)
+over-all f (m ∷ ms) (x ∷ xs) l n h = by (same_key (measure_key m) (measure_key n)) h (over-all f ms xs (omega arith) n)
+  where
+    by : (b : Bool) → (b || among measure_key (measure_key n) ms) ≡ true → (among measure_key (measure_key n) ms ≡ true → number_over f ms xs n ≡ number_in ms xs n)
+        → (if b then x else number_over f ms xs n) ≡ (if b then x else number_in ms xs n)
+    by true h rest = refl
+    by false h rest = rest h
 
 -- ---- one more flow
 
@@ -80,34 +95,48 @@ held-same : (f g : Measure → ℤ) → ((d : Cell) → g (measure.Cell d) ≡ f
 held-same f g same [] = refl
 held-same f g same (d ∷ cs) = rw (held-same f g same cs, same d) refl
 
--- the table of the first flows
-abbrev pub table_upto : ProblemFacts → List ℤ → ℕ → TableFacts
-table_upto p xs k = table_of p (number_in (take k (live_measures p)) (take k xs))
+-- a table with the first flows written over its numbers
+abbrev pub written_upto : ProblemFacts → TableFacts → List ℤ → ℕ → TableFacts
+written_upto p t xs k = table_of p (number_over (value_of t) (take k (live_measures p)) (take k xs))
 
-put-more : (p : ProblemFacts) (xs : List ℤ) (k : ℕ) (m : Measure) (x : ℤ) → slice_get (live_measures p) k ≡ Some m → slice_get xs k ≡ Some x
-    → put_flow (table_upto p xs k) m x ≡ table_upto p xs (suc k)
-put-more p xs k m x e f = by m e (number_in-more (live_measures p) xs (live-sorted p) k m x e f)
+put-more : (p : ProblemFacts) (t : TableFacts) (xs : List ℤ) (k : ℕ) (m : Measure) (x : ℤ) → slice_get (live_measures p) k ≡ Some m → slice_get xs k ≡ Some x
+    → put_flow (written_upto p t xs k) m x ≡ written_upto p t xs (suc k)
+put-more p t xs k m x e f = by m e (over-more (value_of t) (live_measures p) xs (live-sorted p) k m x e f)
   where
-    by : (m : Measure) → slice_get (live_measures p) k ≡ Some m
-        → ((n : Measure) → number_in (take (suc k) (live_measures p)) (take (suc k) xs) n ≡ (if same_key (measure_key m) (measure_key n) then x else number_in (take k (live_measures p)) (take k xs) n))
-        → put_flow (table_upto p xs k) m x ≡ table_upto p xs (suc k)
-    by (measure.Cell c) e same =
-        ap (λ hs. record (table_upto p xs k) { cells = hs }) (held-more c x (number_in (take k (live_measures p)) (take k xs)) (number_in (take (suc k) (live_measures p)) (take (suc k) xs)) same (cell_rows p))
+    before : Measure → ℤ
+    before = number_over (value_of t) (take k (live_measures p)) (take k xs)
+
+    after : Measure → ℤ
+    after = number_over (value_of t) (take (suc k) (live_measures p)) (take (suc k) xs)
+
+    by : (m : Measure) → slice_get (live_measures p) k ≡ Some m → ((n : Measure) → after n ≡ (if same_key (measure_key m) (measure_key n) then x else before n))
+        → put_flow (written_upto p t xs k) m x ≡ written_upto p t xs (suc k)
+    by (measure.Cell c) e same = ap (λ hs. record (written_upto p t xs k) { cells = hs }) (held-more c x before after same (cell_rows p))
     by (measure.Total u) e same =
-        ap (λ hs. record (table_upto p xs k) { cells = hs })
-        (held-same (number_in (take k (live_measures p)) (take k xs)) (number_in (take (suc k) (live_measures p)) (take (suc k) xs)) (λ d. same (measure.Cell d) ∙ rw (total-cell u d) refl) (cell_rows p))
+        ap (λ hs. record (written_upto p t xs k) { cells = hs }) (held-same before after (λ d. same (measure.Cell d) ∙ rw (total-cell u d) refl) (cell_rows p))
 
-pub flow-put : (p : ProblemFacts) (xs : List ℤ) (k : ℕ) (m : Measure) (x : ℤ) (t u : TableFacts) → slice_get (live_measures p) k ≡ Some m → slice_get xs k ≡ Some x
-    → t ≡ table_upto p xs k → u ≡ put_flow t m x → u ≡ table_upto p xs (k + 1)
-flow-put p xs k m x t u e f g h = h ∙ ap (λ z. put_flow z m x) g ∙ put-more p xs k m x e f ∙ ap (table_upto p xs) (sym (add-one k))
+pub flow-put : (p : ProblemFacts) (t : TableFacts) (xs : List ℤ) (k : ℕ) (m : Measure) (x : ℤ) (u v : TableFacts) → slice_get (live_measures p) k ≡ Some m → slice_get xs k ≡ Some x
+    → u ≡ written_upto p t xs k → v ≡ put_flow u m x → v ≡ written_upto p t xs (k + 1)
+flow-put p t xs k m x u v e f g h = h ∙ ap (λ z. put_flow z m x) g ∙ put-more p t xs k m x e f ∙ ap (written_upto p t xs) (sym (add-one k))
 
--- at first all are 0
-pub none-put : (p : ProblemFacts) (xs : List ℤ) → zeros p ≡ table_upto p xs 0
-none-put p xs = refl
+-- at first the table is as it was
+pub none-put : (p : ProblemFacts) (t : TableFacts) (xs : List ℤ) → IsProblem p → IsTableOf p t → t ≡ written_upto p t xs 0
+none-put p t xs ok of = sym (table_of-values p t ok of)
 
 -- at last the table is that of the circulation
-pub all-put : (p : ProblemFacts) (xs : List ℤ) (k : ℕ) → length (live_measures p) ≤ k → length xs ≤ k → table_upto p xs k ≡ table_from p xs
-all-put p xs k h l = rw (take-all (live_measures p) k h, take-all xs k l) refl
+pub all-put : (p : ProblemFacts) (t : TableFacts) (xs : List ℤ) (k : ℕ) → length (live_measures p) ≤ k → length xs ≤ k → length (live_measures p) ≤ length xs
+    → written_upto p t xs k ≡ table_from p xs
+all-put p t xs k h l m =
+    rw (take-all (live_measures p) k h, take-all xs k l) (table_of-same p (number_over (value_of t) (live_measures p) xs) (number_in (live_measures p) xs) (All-weaker (λ n. among measure_key (measure_key n) (live_measures p) ≡ true) (λ n. number_over (value_of t) (live_measures p) xs n ≡ number_in (live_measures p) xs n) (over-all (value_of t) (live_measures p) xs m) (live_measures p) (live-among p)))
+
+-- a number that stands at a place needs not be put
+pub put-stands : (t : TableFacts) (i : ℕ) (h : Held) → IsAscending (λ (h : Held). cell_key h.cell) t.cells → slice_get t.cells i ≡ Some h → (c : Cell) (x : ℤ) → h.cell ≡ c → h.number ≡ x
+    → put_number t c x ≡ t
+put-stands t i h order at c x cell number =
+    subst (λ d. put_number t d x ≡ t) cell (ap (λ hs. record t { cells = hs }) (subst (λ y. map (put_in h.cell y) t.cells ≡ t.cells) number all))
+  where
+    all : map (put_in h.cell h.number) t.cells ≡ t.cells
+    all = put-set h.number t.cells (Sorted-from_ascending key_of t.cells order) i h (slice_get_within t.cells i h at) (get_or_from_slice_get t.cells i h h at) ∙ set-same t.cells i h at
 
 -- ---- each cell's flow is in the range of tables
 

@@ -12,4 +12,4 @@ pub mod table_flows;
 
 pub use circuits::{Circuit, build};
 pub use costs::RowCost;
-pub use table_flows::{flow_of, table_of};
+pub use table_flows::{flow_of, table_of, table_over};

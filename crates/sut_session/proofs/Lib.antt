@@ -5,3 +5,4 @@ pub mod Moved
 pub mod OneMoved
 pub mod TargetMoved
 pub mod Rebalanced
+pub mod LastTables

@@ -69,7 +69,7 @@ found-live t l (s ∷ rows) r e = by (t s) e (found-live t l rows r)
 pub row-live : (p : ProblemFacts) (m : Measure) (r : RowFacts) → row_at p m ≡ Some r → is_live p m ≡ true
 row-live p m r e = found-live (is_of m) (λ s. is_part_of (groups p) s.measure m) p.rows r e
 
-ok-same : (p q : ProblemFacts) (r : Result ProblemFacts EditFault) → r ≡ Ok p → r ≡ Ok q → p ≡ q
+pub ok-same : (p q : ProblemFacts) (r : Result ProblemFacts EditFault) → r ≡ Ok p → r ≡ Ok q → p ≡ q
 ok-same p q r e f = cc
 
 pub set-step : (q p : ProblemFacts) (r : RowFacts) → edited q (edit.Set r) ≡ Ok p → (is_live q r.measure ≡ true) × (row_put q r ≡ p)

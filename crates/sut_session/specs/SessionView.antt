@@ -1,6 +1,7 @@
 -- What the fields of a session stand for, and what they keep.
 use Rattle.std.specs.Prelude.{length, IfSome, Option, None, Some}
 use Rattle.sut_tables.specs.ProblemFacts.{ProblemFacts}
+use Rattle.sut_tables.specs.Problems.{IsTableOf}
 use Rattle.flow_residual.specs.Rooms.{IsRoomFor}
 use Rattle.sut_circuit.specs.IsCircuit.{IsCircuit}
 use Rattle.sut_session.specs.SessionFacts.{KeptNumbers, SessionFacts}
@@ -24,7 +25,8 @@ kept_of (Some n) = Some (numbers_of n)
 abbrev pub session_of : Inside → SessionFacts
 session_of s = record { problem = s.problem; answer = s.answer; kept = kept_of s.network }
 
--- a network is that of the problem, and an answer answers it
+-- a network and the last table are the problem's, and an answer answers it
 pub record KeepsAnswer (s : Inside) : Type 0 where
   pub network : IfSome s.network (IsNetworkOf s.problem)
   pub answer : IfSome s.answer (IsAnswerTo s.problem (kept_of s.network))
+  pub last : IfSome s.last (IsTableOf s.problem)

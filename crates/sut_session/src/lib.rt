@@ -2,6 +2,7 @@
 #![tactic(auto)]
 
 mod following;
+mod last_tables;
 mod networks;
 pub mod sessions;
 

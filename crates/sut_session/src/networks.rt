@@ -2,6 +2,7 @@
 
 ghost use Rattle.std.specs.Prelude.{◌≡◌, ◌-◌, ◌≤◌, false, None, IfOk, IfSome};
 ghost use Rattle.flow_solve.specs.Bounds.{FewTicks, NearSettled};
+ghost use Rattle.sut_tables.specs.Problems.{IsTableOf};
 ghost use Rattle.sut_cert.specs.Right.{is_infeasible};
 ghost use Rattle.sut_circuit.specs.RowCosts.{cost_at};
 ghost use Rattle.sut_session.specs.SessionView.{IsNetworkOf, kept_of, numbers_of};
@@ -11,10 +12,10 @@ use flow_residual::{Room, Steps};
 use no_memory::NoMemory;
 use std::alloc::Global;
 use std::sync::ledger::Ledger;
-use sut_balance::{balance_in, started};
+use sut_balance::{balance_over, started};
 use sut_cert::Answer;
 use sut_circuit::Circuit;
-use sut_tables::Problem;
+use sut_tables::{Problem, Table};
 
 /// A circuit, whose flows and potentials stand near to an answer, and the room of its searches.
 #[derive(Drop)]
@@ -49,31 +50,35 @@ fn take_network(
     }
 }
 
-/// The answer to a problem on its network, from whose flows and potentials the solver goes on.
+/// The answer to a problem on its network, from whose flows and potentials the solver goes on, written over the last table.
 fn answer_on<L: Ledger>(
     alloc: Global,
     p: &Problem,
     n: &mut Network,
     steps: &mut Steps<L>,
+    last: Option<Table>,
 ) -> Result<Answer, NoMemory>
-    requires { IsNetworkOf p.now n.old }
+    requires network { IsNetworkOf p.now n.old }
+    requires last { IfSome last (IsTableOf p.now) }
     ensures network { IsNetworkOf p.now n.new }
     ensures answer { IfOk result (IsAnswerTo p.now (Some (numbers_of n.new))) }
     ensures few_ticks { FewTicks cost_at n.old.circuit.state (steps.new - steps.old) }
     ensures near_settled { IfOk result (λ a. is_infeasible a ≡ false → NearSettled cost_at n.old.circuit.state n.new.circuit.state.flows) }
     ensures counts_up { steps.old ≤ steps.new }
 {
-    balance_in(alloc, p, &mut n.circuit, &mut n.room, steps)
+    balance_over(alloc, p, &mut n.circuit, &mut n.room, steps, last)
 }
 
-/// The answer to a problem on its network, which is built where there is none.
+/// The answer to a problem on its network, which is built where there is none, written over the last table, if there is one.
 pub(crate) fn answer_to<L: Ledger>(
     alloc: Global,
     p: &Problem,
     network: &mut Option<Network>,
     steps: &mut Steps<L>,
+    last: Option<Table>,
 ) -> Result<Answer, NoMemory>
-    requires { IfSome network.old (IsNetworkOf p.now) }
+    requires network { IfSome network.old (IsNetworkOf p.now) }
+    requires last { IfSome last (IsTableOf p.now) }
     ensures network { IfSome network.new (IsNetworkOf p.now) }
     ensures answer { IfOk result (IsAnswerTo p.now (kept_of network.new)) }
     ensures few_ticks { IfSome network.old (λ n. FewTicks cost_at n.circuit.state (steps.new - steps.old)) }
@@ -81,7 +86,7 @@ pub(crate) fn answer_to<L: Ledger>(
     ensures counts_up { steps.old ≤ steps.new }
 {
     let mut n = take_network(alloc, p, network)?;
-    let answer = answer_on(alloc, p, &mut n, steps);
+    let answer = answer_on(alloc, p, &mut n, steps, last);
     *network = Some(n);
     answer
 }

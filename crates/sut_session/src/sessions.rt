@@ -10,6 +10,7 @@ ghost use Rattle.sut_session.specs.SmallSets.{AfterSmallSet, KeepsBounds, StaysN
 ghost use Rattle.sut_session.specs.Standing.{IsAnswerTo};
 
 use crate::following::follow;
+use crate::last_tables::{take_table, with_same_cells};
 use crate::networks::{Network, answer_to, network_of};
 use flow_residual::Steps;
 use no_memory::NoMemory;
@@ -18,7 +19,7 @@ use std::marker::Model;
 use std::sync::ledger::Ledger;
 use sut_cert::Answer;
 use sut_edits::{Edit, EditFault, apply_edit};
-use sut_tables::Problem;
+use sut_tables::{Problem, Table};
 
 /// The rows of a problem as they are now, their answer, if one stands, and the network on which the next answer goes on.
 #[derive(Drop)]
@@ -27,6 +28,8 @@ pub struct Session {
     /// None after an edit that the network does not follow.
     network: Option<Network>,
     answer: Option<Answer>,
+    /// The last balanced table while its cells are those of the rows: the next one is written over it.
+    last: Option<Table>,
 }
 
 impl Model for Session {
@@ -52,6 +55,7 @@ impl Session {
                 problem: p,
                 network: Some(network),
                 answer: None,
+                last: None,
             }),
             Err(_) => Err(NoMemory),
         }
@@ -96,7 +100,8 @@ impl Session {
     {
         match apply_edit(&mut self.problem, edit) {
             Ok(()) => {
-                self.answer = None;
+                take_table(&mut self.answer, &mut self.last);
+                self.last = with_same_cells(self.last.take(), edit);
                 follow(&mut self.network, &self.problem, edit);
                 Ok(())
             }
@@ -121,10 +126,11 @@ impl Session {
         ensures few_ticks { AfterSmallSet self.old (λ t m d. steps.new - steps.old ≤ d) }
         ensures near { OnOk result (AfterSmallSet self.old (λ t m d. IfSome self.new.answer (StaysNear self.new.problem t m d))) }
     {
-        self.answer = None;
+        take_table(&mut self.answer, &mut self.last);
         // The problem's rows bound its tables.
         self.problem.kept();
-        let answer = answer_to(alloc, &self.problem, &mut self.network, steps)?;
+        let last = self.last.take();
+        let answer = answer_to(alloc, &self.problem, &mut self.network, steps, last)?;
         self.answer = Some(answer);
         Ok(())
     }

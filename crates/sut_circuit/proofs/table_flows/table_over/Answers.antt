@@ -13,10 +13,10 @@ use Rattle.sut_circuit.specs.TableFlows.{FitsIn}
 use Rattle.sut_circuit.proofs.Circulations.{flows-back, same-cost, table-admissible}
 use Rattle.sut_circuit.proofs.Flowed.{all-put, flow-fits, flow-put, none-put}
 use Rattle.sut_circuit.proofs.Places.{zip-length}
-use Rattle.sut_circuit.proofs.table_flows.table_of.Goals as goal
+use Rattle.sut_circuit.proofs.table_flows.table_over.Goals as goal
 
 pub loop-a-init : goal.loop-a-init
-loop-a-init c = c.in_ok-table.ensures.value ∙ none-put c.args.p.now c.args.c.now.state.flows
+loop-a-init c = none-put c.args.p.now c.args.table c.args.c.now.state.flows c.kept.ensures.problem c.requires.table
 
 -- the arc's measure is the live one at its place
 measure_at : (c : goal.After-flow) → slice_get (live_measures c.args.p.now) c.loop-a.a ≡ Some c.arc_name.result
@@ -38,7 +38,7 @@ loop-a-preserved c =
     let same : x ≡ c.flow.result = omega (arith, ints, c.flow.type_inv) in
     let named : slice_get (live_measures c.args.p.now) c.loop-a.a ≡ Some c.arc_name.result =
     subst (λ ms. slice_get ms c.loop-a.a ≡ Some c.arc_name.result) (ap (λ (g : Network Account Measure). g.names) c.graph-graph.ensures.value ∙ c.requires.circuit.circuit.measures) c.arc_name.ensures in
-    flow-put c.args.p.now c.args.c.now.state.flows c.loop-a.a c.arc_name.result x c.loop-a.table c.put_flow.new.table named (c.flow.ensures ∙ ap Some (sym same)) c.loop-a.invariant c.put_flow.ensures
+    flow-put c.args.p.now c.args.table c.args.c.now.state.flows c.loop-a.a c.arc_name.result x c.loop-a.table c.put_flow.new.table named (c.flow.ensures ∙ ap Some (sym same)) c.loop-a.invariant c.put_flow.ensures
 
 -- at the end the table is that of the flows
 table_is : (c : goal.After-loop-a) → c.loop-a.table ≡ table_from c.args.p.now c.args.c.now.state.flows
@@ -46,10 +46,12 @@ table_is c =
     let p = c.args.p.now in
     let s = c.args.c.now.state in
     let arcs : length s.graph.arcs ≤ c.loop-a.a = omega (arith, ap (λ (g : Network Account Measure). length g.arcs) c.graph-graph.ensures.value, c.arc_count-a-end.ensures.count) in
+    let zipped = zip-length (IsArcOf p (live_accounts p)) (live_measures p) s.graph.arcs c.requires.circuit.circuit.arcs in
     c.loop-a.invariant
-    ∙ all-put p s.flows c.loop-a.a
-    (omega (arith, arcs, zip-length (IsArcOf p (live_accounts p)) (live_measures p) s.graph.arcs c.requires.circuit.circuit.arcs))
+    ∙ all-put p c.args.table s.flows c.loop-a.a
+    (omega (arith, arcs, zipped))
     (omega (arith, arcs, c.graph-graph.ensures.kept.counted))
+    (omega (arith, zipped, c.graph-graph.ensures.kept.counted))
 
 pub returns-clause-table : goal.returns-clause-table
 returns-clause-table c = table_is c

@@ -1,10 +1,11 @@
 use Rattle.std.proofs.Common.{◌≡◌, length, refl, sym, ◌∙◌, ap}
 use Rattle.sut_circuit.specs.Circuit.{by_account, marked}
 use Rattle.sut_balance.proofs.Found.{circuit-stays, cut-impossible, made-is, potentials-are, right-cut, right-table, set-is, some-made}
-use Rattle.sut_balance.proofs.balancing.balance_in.Goals as goal
+use Rattle.sut_balance.proofs.balancing.balance_over.Goals as goal
 
-pub table_of-requires : goal.table_of-requires
-table_of-requires g c = record {
+pub table_over-table-requires : goal.table_over-table-requires
+table_over-table-requires g c = record {
+  table = c.in_ok-first-in-Least.ensures;
   circuit = record {
     accounts = c.requires.circuit.accounts;
     circuit = circuit-stays c.args.p.now c.args.c.now.state c.solve_from.new.s c.in_ok-outcome.ensures.rest c.requires.circuit.circuit;
@@ -41,7 +42,7 @@ returns-in_ok-pairs-in-Least-clause-right g c =
     let s = c.solve_from.new.s in
     let circuit = circuit-stays c.args.p.now c.args.c.now.state s c.in_ok-outcome.ensures.rest c.requires.circuit.circuit in
     right-table c.args.p.now c.kept.ensures s.graph s.costs circuit s.flows s.potentials c.graph.ensures.kept.potentials (c.in_ok-outcome.ensures.least c.in-Least.is)
-    c.in_ok-table-in-Least.table c.unwrap-potentials.result c.in_ok-table-in-Least.ensures.table
+    c.table_over-table.result c.unwrap-potentials.result c.table_over-table.ensures.table
     (made-is c.of.result (λ ps. ps ≡ c.in_ok-pairs-in-Least.pairs.items) c.unwrap-potentials.result c.of.ensures.made c.unwrap-potentials.ensures
     ∙ c.in_ok-pairs-in-Least.ensures ∙ ap (λ accounts. by_account accounts s.potentials) c.requires.circuit.accounts)
 
