@@ -1,7 +1,7 @@
 #!/usr/bin/env bash
 # Measures CPU seconds and peak memory of `sut balance` and `sutcheck` on made years and on contradictions of them, and of
-# `sut edit` on small edits of these years, and prints the tables of docs/PERFORMANCE.md. Where `perf` is there, it tells too
-# which crates the time of a balance goes to.
+# `sut edit` on small edits of these years, and prints the tables of docs/PERFORMANCE.md. Where it may set uprobes, it times
+# each rebalance of these edits; where `perf` is there, it tells which crates the time of a balance goes to.
 # usage: docs/figures.sh FOLDER [SEED,PRODUCTS,INDUSTRIES ..]
 # FOLDER holds the two programs, or is the top of a repository that has built them.
 set -eu
@@ -67,6 +67,28 @@ shares() {
         sort -rn | awk '{ printf "%s%s %s%%", (NR > 1 ? ", " : ""), $2, $1 } END { print "" }'
 }
 
+tracing=/sys/kernel/tracing
+
+# The milliseconds of the rebalances of `sut edit` but the first, in the mean and at worst: from the entry of `balance_over`,
+# which answers them, to its return.
+rebalances() {
+    read -r offset address < <(readelf -lW "$sut" | awk '$1 == "LOAD" && / R E / { print $2, $3 }')
+    entry=0x$(nm "$sut" | awk '/balance_over/ { print $1; exit }')
+    place=$(printf '0x%x' $((entry - address + offset)))
+    printf 'p:began %s:%s\nr:ended %s:%s\n' "$sut" "$place" "$sut" "$place" >"$tracing/uprobe_events"
+    : >"$tracing/trace"
+    echo 1 >"$tracing/events/uprobes/enable"
+    "$sut" edit >"$work/said"
+    echo 0 >"$tracing/events/uprobes/enable"
+    awk '
+        { for (i = 2; i <= NF; i++) if ($i == "began:" || $i == "ended:") { now = $(i - 1) + 0; event = $i } }
+        event == "began:" { start = now }
+        event == "ended:" && ++count > 1 { sum += now - start; if (now - start > worst) worst = now - start }
+        { event = "" }
+        END { printf "%.1f | %.1f", sum / (count - 1) * 1000, worst * 1000 }' "$tracing/trace"
+    : >"$tracing/uprobe_events"
+}
+
 work=$(mktemp -d)
 trap 'rm -rf "$work"' EXIT
 printf '| year | rows | command | CPU s | peak MB | status | first line |\n|---|---|---|---|---|---|---|\n'
@@ -103,6 +125,13 @@ for year; do
     printf '| %s | %s | %s | %s | %s | %s |\n' "${year//,/ }" "$(($(wc -l <source.csv) - 1))" "${once%% *}" "${often%% *}" \
         "$(printf '%s' "$often" | cut -d '|' -f 2 | tr -d ' ')" "$each"
 done
+if [ -w "$tracing/uprobe_events" ] && command -v nm readelf >/dev/null; then
+    printf '\n| rows | each rebalance, ms in the mean | at worst |\n|---|---|---|\n'
+    for year; do
+        cd "$work/$year"
+        printf '| %s | %s |\n' "$(($(wc -l <source.csv) - 1))" "$(rebalances)"
+    done
+fi
 if command -v perf >/dev/null; then
     printf '\n| year | where the time of a balance goes |\n|---|---|\n'
     for year; do
