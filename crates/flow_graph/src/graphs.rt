@@ -79,13 +79,29 @@ const ARC_LIMIT: usize = 524_288;
 
 /// Nodes and arcs by name, in the order of adding: up to 262,144 nodes, and up to 524,288 arcs with two bounds up to 2^60
 /// away from 0. Each node has a list of the arcs that leave or enter it, linked through the arcs.
-#[derive(Drop)]
 pub struct Graph<N: Name, A: Name> {
     nodes: IndexSet<N>,
     names: IndexSet<A>,
     arcs: Vec<Arc>,
     starts: Vec<Option<ArcId>>,
     links: Vec<Links>,
+}
+
+impl<N: Name, A: Name> Drop for Graph<N, A> {
+    fn drop(self) {
+        let Graph {
+            nodes,
+            names,
+            arcs,
+            starts,
+            links,
+        } = self;
+        drop(nodes);
+        drop(names);
+        drop(arcs);
+        drop(starts);
+        drop(links);
+    }
 }
 
 impl<N: Name, A: Name> Model for Graph<N, A> {

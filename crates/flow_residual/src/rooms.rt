@@ -7,7 +7,7 @@ use no_memory::NoMemory;
 use std::alloc::Global;
 
 /// What a search and a solver write, and what `augment` reads: one entry for each node, and the ends of the path.
-#[derive(Debug, Drop)]
+#[derive(Debug)]
 pub struct Room {
     /// The nodes reached.
     pub set: Vec<bool>,
@@ -20,6 +20,27 @@ pub struct Room {
     pub aside: Vec<bool>,
     pub source: NodeId,
     pub last: NodeId,
+}
+
+impl Drop for Room {
+    fn drop(self) {
+        let Room {
+            set,
+            dist,
+            by,
+            heap,
+            place,
+            aside,
+            source: _,
+            last: _,
+        } = self;
+        drop(set);
+        drop(dist);
+        drop(by);
+        drop(heap);
+        drop(place);
+        drop(aside);
+    }
 }
 
 /// So many copies of a value.

@@ -22,13 +22,29 @@ use std::marker::Model;
 use std::sync::ledger::Ledger;
 
 /// A graph with a cost and a flow on each arc, and a potential at each node.
-#[derive(Drop)]
 pub struct State<N: Name, A: Name, C: Cost> {
     graph: Graph<N, A>,
     costs: Vec<C>,
     flows: Vec<i64>,
     excesses: Vec<i128>,
     potentials: Vec<i128>,
+}
+
+impl<N: Name, A: Name, C: Cost> Drop for State<N, A, C> {
+    fn drop(self) {
+        let State {
+            graph,
+            costs,
+            flows,
+            excesses,
+            potentials,
+        } = self;
+        drop(graph);
+        drop(costs);
+        drop(flows);
+        drop(excesses);
+        drop(potentials);
+    }
 }
 
 impl<N: Name, A: Name, C: Cost> Model for State<N, A, C> {

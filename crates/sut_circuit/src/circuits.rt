@@ -13,11 +13,18 @@ use sut_tables::{Problem, live, live_accounts};
 
 /// A graph whose nodes are accounts and whose arcs are measures, each arc with bounds, a cost and a flow in whole currency
 /// units, and each node with a potential.
-#[derive(Drop)]
 pub struct Circuit {
     pub state: State<Account, Measure, RowCost>,
     /// The nodes, in order.
     pub accounts: Vec<Account>,
+}
+
+impl Drop for Circuit {
+    fn drop(self) {
+        let Circuit { state, accounts } = self;
+        drop(state);
+        drop(accounts);
+    }
 }
 
 /// A node for each live account and an arc for each live measure, in order. The arc of a row has its bounds and its cost;

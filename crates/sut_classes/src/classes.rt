@@ -16,7 +16,6 @@ use std::alloc::{AllocError, Global};
 use std::marker::Model;
 
 /// The codes of the axes that have nothing beside their codes.
-#[derive(Drop)]
 struct OtherLists {
     finals: Codes,
     items: Codes,
@@ -26,14 +25,46 @@ struct OtherLists {
     industry_groups: Codes,
 }
 
+impl Drop for OtherLists {
+    fn drop(self) {
+        let OtherLists {
+            finals,
+            items,
+            margins,
+            taxes,
+            product_groups,
+            industry_groups,
+        } = self;
+        drop(finals);
+        drop(items);
+        drop(margins);
+        drop(taxes);
+        drop(product_groups);
+        drop(industry_groups);
+    }
+}
+
 /// The classes of one year: a format, and the codes of eight axes in the order of the file, with
 /// the kind and group of each product and the group of each industry.
-#[derive(Drop)]
 pub struct Classes {
     file_format: u8,
     all_products: ProductList,
     all_industries: IndustryList,
     others: OtherLists,
+}
+
+impl Drop for Classes {
+    fn drop(self) {
+        let Classes {
+            file_format: _,
+            all_products,
+            all_industries,
+            others,
+        } = self;
+        drop(all_products);
+        drop(all_industries);
+        drop(others);
+    }
 }
 
 impl Model for Classes {

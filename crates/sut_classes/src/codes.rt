@@ -9,9 +9,15 @@ use std::alloc::{AllocError, Global};
 use std::marker::Model;
 
 /// Distinct codes in order, at most 512. Contracts see their list.
-#[derive(Drop)]
 pub struct Codes {
     set: IndexSet<Vec<u8>>,
+}
+
+impl Drop for Codes {
+    fn drop(self) {
+        let Codes { set } = self;
+        drop(set);
+    }
 }
 
 impl Model for Codes {

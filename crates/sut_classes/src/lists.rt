@@ -19,10 +19,17 @@ pub struct ProductFacts {
 }
 
 /// The products in order. Contracts see the list of them.
-#[derive(Drop)]
 pub struct ProductList {
     names: Codes,
     facts: Vec<ProductFacts>,
+}
+
+impl Drop for ProductList {
+    fn drop(self) {
+        let ProductList { names, facts } = self;
+        drop(names);
+        drop(facts);
+    }
 }
 
 impl Model for ProductList {
@@ -98,10 +105,17 @@ impl ProductList {
 }
 
 /// The industries in order. Contracts see the list of them.
-#[derive(Drop)]
 pub struct IndustryList {
     names: Codes,
     groups: Vec<Option<IndustryGroupId>>,
+}
+
+impl Drop for IndustryList {
+    fn drop(self) {
+        let IndustryList { names, groups } = self;
+        drop(names);
+        drop(groups);
+    }
 }
 
 impl Model for IndustryList {

@@ -14,7 +14,6 @@ use std::alloc::Global;
 use std::collections::HashMap;
 
 /// A shelf in memory that fails those of its reads and writes that have the listed numbers, counted together from 1.
-#[derive(Drop)]
 pub struct MemoryShelf {
     alloc: Global,
     files: HashMap<FileName, Vec<u8>>,
@@ -23,6 +22,22 @@ pub struct MemoryShelf {
     calls: u64,
     faults: u64,
     last_failed: Option<FileName>,
+}
+
+impl Drop for MemoryShelf {
+    fn drop(self) {
+        let MemoryShelf {
+            alloc: _,
+            files,
+            fail,
+            keep: _,
+            calls: _,
+            faults: _,
+            last_failed: _,
+        } = self;
+        drop(files);
+        drop(fail);
+    }
 }
 
 // Counts a call, and tells whether it fails.
@@ -156,10 +171,16 @@ impl Shelf for MemoryShelf {
 }
 
 /// A shelf in memory that never fails.
-#[derive(Drop)]
 pub struct SteadyShelf {
     alloc: Global,
     files: HashMap<FileName, Vec<u8>>,
+}
+
+impl Drop for SteadyShelf {
+    fn drop(self) {
+        let SteadyShelf { alloc: _, files } = self;
+        drop(files);
+    }
 }
 
 impl SteadyShelf {

@@ -27,7 +27,6 @@ fn append_within(text: &mut Vec<u8>, room: usize, piece: &[u8]) -> bool
 }
 
 /// A sink in memory that takes `room` bytes and fails the listed puts, counted from 1.
-#[derive(Drop)]
 pub struct MemorySink {
     text: Vec<u8>,
     room: usize,
@@ -35,6 +34,20 @@ pub struct MemorySink {
     calls: u64,
     faults: u64,
     ghost reserved: { room ≤ vec_capacity text },
+}
+
+impl Drop for MemorySink {
+    fn drop(self) {
+        let MemorySink {
+            text,
+            room: _,
+            fail,
+            calls: _,
+            faults: _,
+        } = self;
+        drop(text);
+        drop(fail);
+    }
 }
 
 impl MemorySink {

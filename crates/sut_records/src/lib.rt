@@ -11,9 +11,15 @@ use std::alloc::{AllocError, Global};
 use std::marker::Model;
 
 /// The records of a text that are still to be read. Contracts see their list.
-#[derive(Drop)]
 pub struct Records<'a> {
     reader: Reader<&'a [u8]>,
+}
+
+impl Drop for Records<'_> {
+    fn drop(self) {
+        let Records { reader } = self;
+        drop(reader);
+    }
 }
 
 impl<'a> Model for Records<'a> {

@@ -13,10 +13,16 @@ use sut_tables::{Problem, Table};
 use sut_text::put_bytes;
 
 /// Reviewers, each at its place in the order in which they were handed in, and the number of tables shown to them.
-#[derive(Drop)]
 pub struct Panel {
     seats: Vec<Seat>,
     shown: u64,
+}
+
+impl Drop for Panel {
+    fn drop(self) {
+        let Panel { seats, shown: _ } = self;
+        drop(seats);
+    }
 }
 
 impl Panel {

@@ -22,7 +22,6 @@ use sut_edits::{Edit, EditFault, apply_edit};
 use sut_tables::{Problem, Table};
 
 /// The rows of a problem as they are now, their answer, if one stands, and the network on which the next answer goes on.
-#[derive(Drop)]
 pub struct Session {
     problem: Problem,
     /// None after an edit that the network does not follow.
@@ -30,6 +29,21 @@ pub struct Session {
     answer: Option<Answer>,
     /// The last balanced table while its cells are those of the rows: the next one is written over it.
     last: Option<Table>,
+}
+
+impl Drop for Session {
+    fn drop(self) {
+        let Session {
+            problem,
+            network,
+            answer,
+            last,
+        } = self;
+        drop(problem);
+        drop(network);
+        drop(answer);
+        drop(last);
+    }
 }
 
 impl Model for Session {

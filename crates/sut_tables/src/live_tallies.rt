@@ -12,10 +12,17 @@ use std::alloc::Global;
 use sut_classes::Classes;
 use sut_measures::{Account, Measure, ends};
 
-#[derive(Drop)]
 pub(crate) struct LiveTallies {
     pub measures: Tally<Measure>,
     pub accounts: Tally<Account>,
+}
+
+impl Drop for LiveTallies {
+    fn drop(self) {
+        let LiveTallies { measures, accounts } = self;
+        drop(measures);
+        drop(accounts);
+    }
 }
 
 impl LiveTallies {

@@ -32,7 +32,6 @@ pub enum AddFault {
 
 /// Classes and rows, each measure with at most one row, which fits the classes: at most 131,072 rows of cells and 16,384 of
 /// totals. Contracts see the rows in measure order.
-#[derive(Drop)]
 pub struct Problem {
     classes: Classes,
     rows: BTreeMap<Measure, Row>,
@@ -41,6 +40,21 @@ pub struct Problem {
     totals: usize,
     // of the measures that they make live, and of the ends of these
     live: LiveTallies,
+}
+
+impl Drop for Problem {
+    fn drop(self) {
+        let Problem {
+            classes,
+            rows,
+            cells: _,
+            totals: _,
+            live,
+        } = self;
+        drop(classes);
+        drop(rows);
+        drop(live);
+    }
 }
 
 impl Model for Problem {

@@ -52,12 +52,26 @@ pub struct Broken {
 
 /// A whole number for each cell that has a row; every other cell is 0. Beside its cells it keeps their sums, so that a value
 /// is a look-up.
-#[derive(Drop)]
 pub struct Table {
     cells: Vec<Held>,
     product_groups: Vec<Option<ProductGroupId>>,
     industry_groups: Vec<Option<IndustryGroupId>>,
     sums: BTreeMap<CellSum, i128>,
+}
+
+impl Drop for Table {
+    fn drop(self) {
+        let Table {
+            cells,
+            product_groups,
+            industry_groups,
+            sums,
+        } = self;
+        drop(cells);
+        drop(product_groups);
+        drop(industry_groups);
+        drop(sums);
+    }
 }
 
 impl Model for Table {
