@@ -4,7 +4,5 @@
 
 mod checks;
 pub mod laws;
-#[cfg(test)]
-mod tests;
 
 pub use checks::{contradicts, shows_least};

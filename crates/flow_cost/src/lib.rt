@@ -4,8 +4,6 @@
 mod costs;
 mod losses;
 mod settling;
-#[cfg(test)]
-mod tests;
 
 pub use costs::{Cost, Either, Free, Linear};
 pub use losses::{Absolute, Band, Square};

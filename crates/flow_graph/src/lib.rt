@@ -4,8 +4,6 @@
 mod arcs;
 mod graphs;
 mod names;
-#[cfg(test)]
-mod tests;
 
 pub use arcs::{Arc, ArcId, Arcs, NodeId};
 pub use graphs::{Graph, GraphFault};

@@ -6,8 +6,6 @@ pub mod balancing;
 mod by_account;
 mod solving;
 mod starting;
-#[cfg(test)]
-mod tests;
 
 pub use balancing::{balance, balance_in, balance_over};
 pub use starting::started;

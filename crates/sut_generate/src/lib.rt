@@ -79,6 +79,3 @@ pub fn generate(
         Err(NoMemory) => Err(GenerateFault::NoMemory),
     }
 }
-
-#[cfg(test)]
-mod tests;

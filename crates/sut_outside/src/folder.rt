@@ -136,28 +136,3 @@ impl<R: Print> Sink for ConsoleSink<'_, R> {
         Err(SinkError::Failed)
     }
 }
-
-#[cfg(test)]
-mod tests {
-    use super::*;
-    use std::test::Fail;
-
-    #[test]
-    fn a_folder_that_is_not_there(rt: HostRuntime) -> Result<(), Fail> {
-        let mut nowhere = FolderShelf::new(&rt, String::from_str(rt.alloc(), "/nowhere")?);
-        assert_eq!(rt;
-            nowhere.read(FileName::Classes2Csv),
-            Err(ShelfError::Missing)
-        );
-        assert_eq!(rt;
-            nowhere.write(FileName::Classes2Csv, b""),
-            Err(ShelfError::Failed)
-        );
-        Ok(())
-    }
-
-    #[test]
-    fn prints_a_piece(rt: HostRuntime) {
-        assert_eq!(rt; ConsoleSink::new(&rt).put(b"printed\n"), Ok(()));
-    }
-}

@@ -107,19 +107,3 @@ impl Sink for MemorySink {
         Err(SinkError::Failed)
     }
 }
-
-#[cfg(test)]
-mod tests {
-    use super::*;
-    use std::test::Fail;
-
-    #[test]
-    fn fails_listed_puts_and_full_ones(rt: HostRuntime) -> Result<(), Fail> {
-        let mut sink = MemorySink::new(rt.alloc(), 5, vec![in rt.alloc(); 2]?)?;
-        assert_eq!(rt; sink.put(b"abc"), Ok(()));
-        assert_eq!(rt; sink.put(b"d"), Err(SinkError::Failed));
-        assert_eq!(rt; sink.put(b"efg"), Err(SinkError::Failed));
-        assert_eq!(rt; sink.text(), b"abcef".as_slice());
-        Ok(())
-    }
-}

@@ -92,25 +92,3 @@ pub fn has_fields(row: &ByteRecord, names: &[&[u8]]) -> bool
     }
     true
 }
-
-#[cfg(test)]
-mod tests {
-    use super::*;
-    use std::test::Fail;
-
-    #[test]
-    fn line_ends_quotes_and_a_mark(rt: HostRuntime) -> Result<(), Fail> {
-        let text = b"\xEF\xBB\xBFaxis,code\r\n\n\"a,\"\"b\"\"\",\nlast";
-        let mut records = Records::new(rt.alloc(), text);
-        let mut row = ByteRecord::new(rt.alloc());
-        assert!(rt; records.next(&mut row)?);
-        assert!(rt; has_fields(&row, &[b"axis".as_slice(), b"code".as_slice()]));
-        assert!(rt; records.next(&mut row)?);
-        assert!(rt; has_fields(&row, &[b"a,\"b\"".as_slice(), b"".as_slice()]));
-        assert!(rt; records.next(&mut row)?);
-        assert_eq!(rt; field(&row, 0), b"last".as_slice());
-        assert_eq!(rt; field(&row, 1), b"".as_slice());
-        assert!(rt; !records.next(&mut row)?);
-        Ok(())
-    }
-}

@@ -114,26 +114,3 @@ pub fn read_whole(bytes: &[u8]) -> Result<i128, NumberFault>
         read_digits(false, 0, bytes)
     }
 }
-
-#[cfg(test)]
-mod tests {
-    use super::*;
-
-    #[test]
-    fn texts_and_their_faults(rt: HostRuntime) {
-        assert_eq!(rt; read_whole(b""), Err(NumberFault::Empty));
-        assert_eq!(rt; read_whole(b"-"), Err(NumberFault::BadByte(1)));
-        assert_eq!(rt; read_whole(b"1a"), Err(NumberFault::BadByte(1)));
-        assert_eq!(rt; read_whole(b"007"), Err(NumberFault::NotShortest));
-        assert_eq!(rt; read_whole(b"-0"), Err(NumberFault::NotShortest));
-        assert_eq!(rt; read_whole(b"-12"), Ok(-12));
-        assert_eq!(rt;
-            read_whole(b"-170141183460469231731687303715884105728"),
-            Ok(i128::MIN)
-        );
-        assert_eq!(rt;
-            read_whole(b"170141183460469231731687303715884105728"),
-            Err(NumberFault::TooWide)
-        );
-    }
-}

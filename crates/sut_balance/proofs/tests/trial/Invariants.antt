@@ -1,4 +1,0 @@
-use Rattle.sut_balance.proofs.tests.trial.Given as goal
-
-abbrev pub ghosts-make_of : goal.ghosts-make_of
-ghosts-make_of a = record { name = a.blank.name; parts = a.blank.parts }

@@ -1,5 +1,0 @@
-use Rattle.sut_tables.specs.Problems.{IsTableOf}
-use Rattle.table_trials.proofs.years.put_all.Given as goal
-
-abbrev pub invariant-loop-line : goal.invariant-loop-line
-invariant-loop-line l = IsTableOf l.problem l.table

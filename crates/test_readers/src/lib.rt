@@ -1,0 +1,23 @@
+//! Tests of the readers of a year's files, of edits, and of what is printed.
+#![tactic(auto)]
+
+#[cfg(test)]
+mod classes;
+#[cfg(test)]
+mod edit_faults;
+#[cfg(test)]
+mod edit_files;
+#[cfg(test)]
+mod edit_lines;
+#[cfg(test)]
+mod made;
+#[cfg(test)]
+mod prints;
+#[cfg(test)]
+mod records;
+#[cfg(test)]
+mod settings;
+#[cfg(test)]
+mod sources;
+#[cfg(test)]
+mod texts;
