@@ -1,9 +1,10 @@
 //! Whole numbers, fields and labels as texts. A call that appends answers `NoMemory` where memory runs out, and then
-//! leaves `out` as it was, but for `put_numbers` and `put_words`.
+//! leaves `out` as it was, but for `put_words`.
 #![tactic(auto)]
 
 ghost use Rattle.std.specs.Prelude.{◌≡◌, ◌++◌, ◌∷◌, [], if◌then◌else◌, is_ok, take, length, OnOk};
-ghost use Rattle.sut_text.specs.Text.{whole_text, optional_text, field_text, needs_quotes, quoted_text, Appends, Keeps};
+ghost use Rattle.std.specs.List.{flat_map};
+ghost use Rattle.sut_text.specs.Text.{whole_text, optional_text, field_text, doubled, needs_quotes, quoted_text, Appends, Keeps};
 
 pub mod fields;
 pub mod labels;
@@ -48,17 +49,32 @@ fn needs_quotes(field: &[u8]) -> bool
     field.iter().any(|b| *b == b',' || (*b == b'"' || (*b == b'\r' || *b == b'\n')))
 }
 
+fn put_doubled(out: &mut Vec<u8>, byte: u8) -> Result<(), NoMemory>
+    ensures { Appends out.old.items out.new.items (is_ok result) (doubled byte) }
+{
+    if byte == b'"' {
+        put_bytes(out, b"\"\"")
+    } else {
+        put_byte(out, byte)
+    }
+}
+
+fn put_all_doubled(out: &mut Vec<u8>, field: &[u8]) -> Result<(), NoMemory>
+    ensures done { OnOk result (out.new.items ≡ out.old.items ++ flat_map doubled field.now) }
+    ensures kept { Keeps out.old.items out.new.items }
+{
+    for byte in field {
+        put_doubled(out, *byte)?;
+    }
+    Ok(())
+}
+
 fn put_in_quotes(out: &mut Vec<u8>, field: &[u8]) -> Result<(), NoMemory>
     ensures done { OnOk result (out.new.items ≡ out.old.items ++ quoted_text field.now) }
     ensures kept { Keeps out.old.items out.new.items }
 {
     put_byte(out, b'"')?;
-    for b in field {
-        if *b == b'"' {
-            put_byte(out, b'"')?;
-        }
-        put_byte(out, *b)?;
-    }
+    put_all_doubled(out, field)?;
     put_byte(out, b'"')
 }
 
