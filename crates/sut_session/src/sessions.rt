@@ -80,7 +80,15 @@ impl Session {
         ensures problem { result.0 ≡ self.problem }
         ensures answer { result.1 ≡ self.answer }
     {
-        (self.problem, self.answer)
+        let Session {
+            problem,
+            network,
+            answer,
+            last,
+        } = self;
+        drop(network);
+        drop(last);
+        (problem, answer)
     }
 
     /// The rows as they are now.
