@@ -14,6 +14,7 @@ pub mod Breaks
 pub mod Changes
 pub mod Tables
 pub mod Flows
+pub mod Laws
 pub mod Limits
 pub mod LiveRule
 pub mod GroupsThere

@@ -4,6 +4,7 @@
 pub mod breaks;
 pub mod costs;
 mod group_lists;
+pub mod laws;
 pub mod live_lists;
 mod live_tallies;
 mod made_live;

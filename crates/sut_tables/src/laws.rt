@@ -1,13 +1,12 @@
 //! The laws of tables: functions that do nothing, whose contracts are the laws (SNA 2008, chapter 14).
-#![tactic(auto)]
 
 ghost use Rattle.std.specs.Prelude.{IsNone, ◌↔◌};
 ghost use Rattle.sut_tables.specs.Problems.{IsTableOf};
 ghost use Rattle.sut_tables.specs.Costs.{IsAdmissible};
 ghost use Rattle.sut_tables.specs.Breaks.{first_break};
-ghost use Rattle.sut_laws.specs.Laws.{Conservation, ValuesBalance, BalancedAreValues, ValuesGiveBack, OneGdp};
+ghost use Rattle.sut_tables.specs.Laws.{Conservation, ValuesBalance, BalancedAreValues, ValuesGiveBack, OneGdp};
 
-use sut_tables::{Problem, Table};
+use crate::{Problem, Table};
 
 /// What enters the accounts is what leaves them.
 pub fn conservation()
