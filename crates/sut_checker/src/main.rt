@@ -1,6 +1,7 @@
 //! The program `sutcheck`: checks what stands written in the current folder, without a solver.
 #![tactic(auto)]
 
+use std::io::ErrorKind;
 use std::process::ExitCode;
 use std::{env, io};
 use sut_check::{CheckStatus, check_run};
@@ -24,10 +25,18 @@ fn check_words(rt: &HostRuntime, words: &[String]) -> CheckStatus {
     check_run(rt.alloc(), words, &mut shelf, &mut out)
 }
 
-// Prints the status line on standard error.
+// How a check ends whose words can't be had.
+fn status_without_words(fault: &io::Error) -> CheckStatus {
+    match fault.kind() {
+        ErrorKind::OutOfMemory => CheckStatus::NoMemory,
+        _ => CheckStatus::Usage,
+    }
+}
+
+// Prints the status line on standard error; where there is no memory for it, a literal line.
 fn print_status(rt: &HostRuntime, status: CheckStatus) -> io::Result<()> {
     let Ok(line) = status.line(rt.alloc()) else {
-        return Ok(());
+        return eprint!(rt; "sutcheck: out of memory\n");
     };
     match str::from_utf8(&line) {
         Ok(text) => eprint!(rt; "{text}"),
@@ -38,7 +47,7 @@ fn print_status(rt: &HostRuntime, status: CheckStatus) -> io::Result<()> {
 fn main(rt: HostRuntime) -> ExitCode {
     let status = match words_of(&rt) {
         Ok(words) => check_words(&rt, &words),
-        Err(_) => CheckStatus::Usage,
+        Err(fault) => status_without_words(&fault),
     };
     let code = status.code();
     if code != 0 && code != 3 {

@@ -5,6 +5,7 @@ mod help;
 
 use help::help_text;
 use std::alloc::AllocError;
+use std::io::ErrorKind;
 use std::process::ExitCode;
 use std::{env, io};
 use sut_outside::{ConsoleSink, FolderShelf};
@@ -34,10 +35,18 @@ fn run_words(rt: &HostRuntime, words: &[String]) -> Result<Status, AllocError> {
     Ok(run(rt.alloc(), words, &mut shelf, &mut out, reviewers))
 }
 
-// Prints the status line on standard error.
+// How a run ends whose words can't be had.
+fn status_without_words(fault: &io::Error) -> Status {
+    match fault.kind() {
+        ErrorKind::OutOfMemory => Status::NoMemory,
+        _ => Status::Usage,
+    }
+}
+
+// Prints the status line on standard error; where there is no memory for it, a literal line.
 fn print_status(rt: &HostRuntime, status: Status) -> io::Result<()> {
     let Ok(line) = status.line(rt.alloc()) else {
-        return Ok(());
+        return eprint!(rt; "sut: out of memory\n");
     };
     match str::from_utf8(&line) {
         Ok(text) => eprint!(rt; "{text}"),
@@ -56,7 +65,7 @@ fn print_help(rt: &HostRuntime) -> io::Result<()> {
 fn main(rt: HostRuntime) -> ExitCode {
     let status = match words_of(&rt) {
         Ok(words) => run_words(&rt, &words).unwrap_or(Status::NoMemory),
-        Err(_) => Status::Usage,
+        Err(fault) => status_without_words(&fault),
     };
     let code = status.code();
     if code != 0 && code != 3 {
