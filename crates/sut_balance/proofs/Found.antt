@@ -25,11 +25,6 @@ pub circuit-stays : (p : ProblemFacts) (s t : Flow Account Measure ArcCost) → 
     → IsCircuitOf cost_at p s.graph s.costs → IsCircuitOf cost_at p t.graph t.costs
 circuit-stays p s t e h = subst (λ (z : Flow Account Measure ArcCost). IsCircuitOf cost_at p z.graph z.costs) (sym e) h
 
--- other flows alone
-pub circuit-begun : (p : ProblemFacts) (s t : Flow Account Measure ArcCost) → t ≡ record s { flows = t.flows }
-    → IsCircuitOf cost_at p s.graph s.costs → IsCircuitOf cost_at p t.graph t.costs
-circuit-begun p s t e h = subst (λ (z : Flow Account Measure ArcCost). IsCircuitOf cost_at p z.graph z.costs) (sym e) h
-
 -- the value that is there where there isn't none
 pub some-made : {X : Type 0} (o : Option X) (P : Type 0) → IfNone o (¬ P) → P → IsSome o
 some-made None P h q = absurd (h q)

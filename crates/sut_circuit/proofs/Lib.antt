@@ -19,4 +19,3 @@ pub mod LiveStays
 pub mod Changed
 pub mod Cleared
 pub mod WideArcs
-pub mod Started

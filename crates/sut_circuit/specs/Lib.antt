@@ -5,4 +5,3 @@ pub mod IsCircuit
 pub mod RowChanges
 pub mod RowCosts
 pub mod TableFlows
-pub mod Starts

@@ -7,7 +7,6 @@ pub mod circuits;
 pub mod costs;
 mod growing;
 pub mod laws;
-mod starting;
 pub mod table_flows;
 
 pub use circuits::{Circuit, build};
