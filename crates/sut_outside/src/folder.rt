@@ -3,7 +3,9 @@ ghost use Rattle.std.specs.Prelude.{◌≡◌, None};
 
 use crate::{FILE_LIMIT, FileName, Shelf, ShelfError, Sink, SinkError};
 use std::alloc::{AllocError, AllocFailed};
+use std::fs::{OpenFile, OpenOptions, Permissions};
 use std::io::{ErrorKind, Read, Write};
+use std::os::unix::fs::{OpenOptionsExt, PermissionsExt};
 use std::rt::Files;
 use std::{fs, io};
 
@@ -31,33 +33,102 @@ impl<'a, R: Files + AllocGlobal> FolderShelf<'a, R> {
     }
 }
 
-// The folder's path, a slash and the name.
-fn path_of<R: AllocGlobal>(rt: &R, folder: &str, name: FileName) -> Result<String, AllocError> {
+// The folder's path, a slash, the name and an ending.
+fn path_of<R: AllocGlobal>(
+    rt: &R,
+    folder: &str,
+    name: FileName,
+    ending: &str,
+) -> Result<String, AllocError> {
     let mut path = String::from_str(rt.alloc(), folder)?;
     path.push('/')?;
     path.push_str(name.text())?;
+    path.push_str(ending)?;
     Ok(path)
 }
 
-// A whole file, but no more than one byte past the limit.
+// A whole file, but no more than one byte past the limit. A pipe or a device is no file: a read of it might never end.
 fn read_file<R: Files + AllocGlobal>(rt: &R, folder: &str, name: FileName) -> io::Result<Vec<u8>> {
-    let path = path_of(rt, folder, name)?;
+    let path = path_of(rt, folder, name, "")?;
+    if !fs::metadata(rt, path.as_str())?.is_file() {
+        return Err(io::Error::from(ErrorKind::InvalidInput));
+    }
     let file = fs::open(rt, path.as_str())?;
     let mut bytes = Vec::new(rt.alloc());
     file.take(FILE_LIMIT as u64 + 1).read_to_end(&mut bytes)?;
     Ok(bytes)
 }
 
-// A write that takes nothing of a piece that isn't empty is a failure.
+// The permissions of the file that stands under a path, if one does, which may be written. A link, a pipe or a device is
+// no file.
+fn mode_there<R: Files>(rt: &R, path: &str) -> io::Result<Option<u32>> {
+    match fs::symlink_metadata(rt, path) {
+        Ok(there) if there.is_file() => {
+            let file = OpenOptions::new().write(true).open(rt, path)?;
+            Ok(Some(file.metadata()?.permissions().mode() & 0o777))
+        }
+        Ok(_) => Ok(None),
+        Err(e) if e.kind() == ErrorKind::NotFound => Ok(None),
+        Err(e) => Err(e),
+    }
+}
+
+// Takes away what a run that was cut off has left.
+fn clear<R: Files>(rt: &R, path: &str) -> io::Result<()> {
+    match fs::remove_file(rt, path) {
+        Ok(()) => Ok(()),
+        Err(e) if e.kind() == ErrorKind::NotFound => Ok(()),
+        Err(e) => Err(e),
+    }
+}
+
+// A new file with these bytes, on the device. It follows no link: where anything stands under the path, it fails.
+fn write_new<R: Files>(rt: &R, path: &str, mode: Option<u32>, bytes: &[u8]) -> io::Result<()> {
+    let mut options = OpenOptions::new();
+    options.write(true).create_new(true);
+    if let Some(mode) = mode {
+        options.mode(mode);
+    }
+    let mut file = options.open(rt, path)?;
+    if let Some(mode) = mode {
+        let _ = file.set_permissions(Permissions::from_mode(mode));
+    }
+    file.write_all(bytes)?;
+    file.sync_all()
+}
+
+// Puts the folder's names on the device, where the system opens a folder.
+fn sync_folder<R: Files>(rt: &R, folder: &str) -> io::Result<()> {
+    match fs::open(rt, folder) {
+        Ok(names) => names.sync_all(),
+        Err(_) => Ok(()),
+    }
+}
+
+// A new file beside the old one takes its name once it is whole and on the device.
+fn replace<R: Files>(rt: &R, path: &str, part: &str, bytes: &[u8]) -> io::Result<()> {
+    let mode = mode_there(rt, path)?;
+    clear(rt, part)?;
+    write_new(rt, part, mode, bytes)?;
+    fs::rename(rt, part, path)
+}
+
+// Writes NAME.part and renames it over NAME; after a failure NAME.part is taken away.
 fn write_file<R: Files + AllocGlobal>(
     rt: &R,
     folder: &str,
     name: FileName,
     bytes: &[u8],
 ) -> io::Result<()> {
-    let path = path_of(rt, folder, name)?;
-    let mut file = fs::create(rt, path.as_str())?;
-    file.write_all(bytes)
+    let path = path_of(rt, folder, name, "")?;
+    let part = path_of(rt, folder, name, ".part")?;
+    match replace(rt, path.as_str(), part.as_str(), bytes) {
+        Ok(()) => sync_folder(rt, folder),
+        Err(e) => {
+            let _ = fs::remove_file(rt, part.as_str());
+            Err(e)
+        }
+    }
 }
 
 impl<R: Files + AllocGlobal> Shelf for FolderShelf<'_, R> {
@@ -81,6 +152,9 @@ impl<R: Files + AllocGlobal> Shelf for FolderShelf<'_, R> {
         }
     }
 
+    /// Writes NAME.part, puts it on the device, and renames it over NAME: under a name stands what stood there or the whole
+    /// new text, as far as the system's rename is atomic. Files that may not be written are left. What a run that was cut
+    /// off has left (NAME.part) is removed first.
     fn write(&mut self, name: FileName, bytes: &[u8]) -> Result<(), ShelfError> {
         match write_file(self.rt, &self.folder, name, bytes) {
             Ok(()) => Ok(()),
@@ -110,17 +184,10 @@ impl<'a, R: Print> ConsoleSink<'a, R> {
     }
 }
 
-// Whether all bytes were taken. A write that takes nothing of what isn't empty is a failure.
+// Whether all bytes were taken. A write that takes nothing of what isn't empty is a failure; one that a signal interrupts is
+// tried again.
 fn print_all<R: Print>(rt: &R, bytes: &[u8]) -> bool {
-    let mut rest = bytes;
-    while !rest.is_empty() {
-        match rt.write_some(rest) {
-            Ok(0) => return false,
-            Ok(taken) => rest = &rest[taken..],
-            Err(_) => return false,
-        }
-    }
-    true
+    io::writer(rt).write_all(bytes).is_ok()
 }
 
 impl<R: Print> Sink for ConsoleSink<'_, R> {

@@ -33,8 +33,11 @@ fn main(rt: HostRuntime) -> Result<(), AllocError> {
     let alloc = rt.alloc();
     let mut out = ConsoleSink::new(&rt);
     let mut shelf = FolderShelf::new(&rt, String::from_str(alloc, ".")?);
-    let answer = copy(&mut shelf, &mut out);
-    let _ = say(&mut out, answer);
+    // the second time a file stands there already
+    for _ in 0..2 {
+        let answer = copy(&mut shelf, &mut out);
+        let _ = say(&mut out, answer);
+    }
     let mut none = FolderShelf::new(&rt, String::from_str(alloc, "./nowhere")?);
     let answer = copy(&mut none, &mut out);
     let _ = say(&mut out, answer);
