@@ -1,10 +1,10 @@
 //! How a check ended.
 
 ghost use Rattle.std.specs.Prelude.{◌≡◌, ◌++◌, IfOk, OnOk};
-ghost use Rattle.sut_check_status.specs.CheckCodes.{code};
-ghost use Rattle.sut_check_status.specs.CheckLines.{check_line, check_status_text};
+ghost use Rattle.sut_check.specs.CheckCodes.{code};
+ghost use Rattle.sut_check.specs.CheckLines.{check_line, check_status_text};
 
-use crate::faults::{put_bad_certificate, put_bad_table};
+use crate::fault_words::{put_bad_certificate, put_bad_table};
 use crate::reasons::put_reason;
 use no_memory::NoMemory;
 use std::alloc::Global;

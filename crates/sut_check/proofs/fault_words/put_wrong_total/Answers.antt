@@ -1,7 +1,7 @@
 use Rattle.std.proofs.Common.{◌≡◌, to_z, of_z}
 use mir.Syntax.{w128}
 use Rattle.std.proofs.lemmas.Int.{to_z-of_z}
-use Rattle.sut_check_status.proofs.faults.put_wrong_total.Goals as goal
+use Rattle.sut_check.proofs.fault_words.put_wrong_total.Goals as goal
 
 pub returns : goal.returns
 returns c =

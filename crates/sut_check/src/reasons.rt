@@ -2,7 +2,7 @@
 //! counted from 1.
 
 ghost use Rattle.std.specs.Prelude.{◌≡◌, ◌++◌, OnOk};
-ghost use Rattle.sut_check_status.specs.ReasonTexts.{broken_text, place_text, reason_text};
+ghost use Rattle.sut_check.specs.ReasonTexts.{broken_text, place_text, reason_text};
 
 use no_memory::NoMemory;
 use sut_measures::words::{place as nth, put_account_words, put_measure_words};

@@ -1,7 +1,7 @@
 -- The number that each status ends the program with.
 use Rattle.std.specs.Prelude.{ℕ}
-use Rattle.sut_check_status.specs.declared.statuses.CheckStatus.{CheckStatus}
-use Rattle.sut_check_status.specs.declared.statuses.CheckStatus.TheVariants as status
+use Rattle.sut_check.specs.declared.statuses.CheckStatus.{CheckStatus}
+use Rattle.sut_check.specs.declared.statuses.CheckStatus.TheVariants as status
 
 abbrev pub code : CheckStatus → ℕ
 code status.Least = 0

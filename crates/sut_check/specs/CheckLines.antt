@@ -3,10 +3,10 @@ use Rattle.std.specs.Prelude.{ℕ, List, [], ◌∷◌, ◌++◌, codes}
 use Rattle.sut_text.specs.Text.{spaced}
 use Rattle.sut_outside.specs.Names.{name_text}
 use Rattle.sut_status.specs.StatusLines.{class_text, settings_text, source_text}
-use Rattle.sut_check_status.specs.ReasonTexts.{reason_text}
-use Rattle.sut_check_status.specs.CheckFaultWords.{certificate_text, table_text}
-use Rattle.sut_check_status.specs.declared.statuses.CheckStatus.{CheckStatus}
-use Rattle.sut_check_status.specs.declared.statuses.CheckStatus.TheVariants as status
+use Rattle.sut_check.specs.ReasonTexts.{reason_text}
+use Rattle.sut_check.specs.CheckFaultWords.{certificate_text, table_text}
+use Rattle.sut_check.specs.declared.statuses.CheckStatus.{CheckStatus}
+use Rattle.sut_check.specs.declared.statuses.CheckStatus.TheVariants as status
 
 -- the words of a status, each behind a space
 abbrev pub check_status_text : CheckStatus → List ℕ

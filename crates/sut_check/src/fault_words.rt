@@ -3,7 +3,7 @@
 
 ghost use Rattle.std.specs.Prelude.{◌≡◌, ◌++◌, ◌∷◌, [], OnOk, codes};
 ghost use Rattle.sut_text.specs.Text.{spaced, whole_text};
-ghost use Rattle.sut_check_status.specs.CheckFaultWords.{certificate_text, certificate_words, name_words, table_text, table_words};
+ghost use Rattle.sut_check.specs.CheckFaultWords.{certificate_text, certificate_words, name_words, table_text, table_words};
 
 use no_memory::NoMemory;
 use sut_cert::{CertCause, CertFault};
