@@ -13,5 +13,5 @@ pub mod reasons;
 pub mod statuses;
 mod words;
 
-pub use crate::CheckStatus;
 pub use checks::check_run;
+pub use statuses::CheckStatus;
