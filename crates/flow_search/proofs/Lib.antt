@@ -5,5 +5,6 @@ pub mod Labelled
 pub mod Lists
 pub mod Offered
 pub mod Ready
+pub mod Sums
 pub mod Touching
 pub mod Ways
