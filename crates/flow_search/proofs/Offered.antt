@@ -1,5 +1,5 @@
 -- What an offer along an edge from the node that is being relaxed gives.
-use Rattle.std.proofs.Common.{◌≡◌, ℕ, ◌*◌, ◌^◌, ◌<◌, ◌≤◌, length, get_or, sym, subst, ◌∙◌, arith, ℤ, pos, negsuc, ◌+ℤ◌, ◌≤ℤ◌, ◌⊎◌}
+use Rattle.std.proofs.Common.{◌≡◌, ℕ, ◌*◌, ◌^◌, ◌<◌, ◌≤◌, length, get_or, ◌∙◌, arith, ℤ, pos, negsuc, ◌+ℤ◌, ◌≤ℤ◌, ◌⊎◌}
 use Rattle.std.proofs.lemmas.Int.{ints, to_z-of_z}
 use Rattle.std.proofs.lemmas.List.{get_or_read}
 use mir.Syntax.{w128}
@@ -17,7 +17,7 @@ use Rattle.flow_search.proofs.Ways.{edge_long, small_distance, reached_in}
 kept_price : (x : ℤ) → IsWithin slope_limit x → to_z w128 (of_z w128 x) ≡ x
 kept_price x w = omega (arith, ints, w.low, w.high)
 
-kept_distance : (x d : ℤ) → x ≡ d → IsWithin (pos (10 ^ 23)) d → to_z w128 (of_z w128 x) ≡ d
+pub kept_distance : (x d : ℤ) → x ≡ d → IsWithin (pos (10 ^ 23)) d → to_z w128 (of_z w128 x) ≡ d
 kept_distance x d e w = omega (arith, ints, e, w.low, w.high)
 
 sum_nonneg : (a b c : ℤ) → c ≡ a +ℤ b → pos 0 ≤ℤ a → pos 0 ≤ℤ b → pos 0 ≤ℤ c
