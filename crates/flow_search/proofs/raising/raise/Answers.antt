@@ -35,7 +35,7 @@ loop-v-preserved g c =
     let sum = (sum_in_range c.potential-p.result c.gain-up.result c.args.top w k.0 k.1 c.requires.high).1 in
     let f : SFits w128 c.index.result.now = search rules in
     let read : to_z w128 (of_z w128 c.index.result.now) ≡ distance (labels_of c.args.room.now) c.loop-v.v =
-    to_z-of_z w128 c.index.result.now f ∙ get_or_read c.args.room.now.dist.items c.loop-v.v c.index.result.now (omega (arith, there, c.requires.room.dist, c.args.room.now.dist.ok.0)) c.index.ensures (negsuc 0) in
+    to_z-of_z w128 c.index.result.now f ∙ get_or_read c.args.room.now.dist.items c.loop-v.v c.index.result.now (subst (λ z. c.loop-v.v < z) (sym c.requires.room.dist ∙ c.args.room.now.dist.ok.0) there) c.index.ensures (negsuc 0) in
     let gain : IsGain (distance (labels_of c.args.room.now) c.loop-v.v) (to_z w128 (of_z w128 c.args.top)) c.gain-up.result =
     subst (λ z. IsGain z (to_z w128 (of_z w128 c.args.top)) c.gain-up.result) read c.gain-up.ensures in
     let m = raised_more (labels_of c.args.room.now) (to_z w128 (of_z w128 c.args.top)) c.args.s.now c.loop-v.s c.set_potential.new.self c.loop-v.v c.potential-p.result c.gain-up.result
