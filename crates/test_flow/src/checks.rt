@@ -3,9 +3,10 @@
 ghost use Rattle.std.specs.Prelude.{All, pos, ◌*◌, ◌^◌};
 ghost use Rattle.flow_cost.specs.Cost.{IsWithin};
 
+use crate::spans::assert_spans;
 use flow_check::{contradicts, shows_least};
 use flow_cost::Square;
-use flow_graph::{ArcId, Graph};
+use flow_graph::Graph;
 use std::process::Abort;
 use std::test::Fail;
 
@@ -25,17 +26,6 @@ fn two_nodes(
     assert!(rt; graph.add_arc(0, 0, 1, there.0, there.1).is_ok());
     assert!(rt; graph.add_arc(1, 1, 0, back.0, back.1).is_ok());
     graph
-}
-
-/// Tests that the bounds lie within the span of a square.
-fn assert_spans(rt: &impl Abort, graph: &Graph<u32, u32>)
-    ensures { All (λ arc. IsWithin (pos (10 ^ 12)) arc.lo × IsWithin (pos (10 ^ 12)) arc.hi) graph.now.arcs }
-{
-    for a in 0..graph.arc_count() {
-        let (lo, hi) = graph.bounds(ArcId(a));
-        assert!(rt; lo >= -1_000_000_000_000);
-        assert!(rt; hi <= 1_000_000_000_000);
-    }
 }
 
 /// Tests that the potentials are in range.

@@ -3,6 +3,7 @@
 ghost use Rattle.std.specs.Prelude.{◌≡◌, ◌<◌, ◌*◌, ◌^◌, pos, All, IsTrue, length};
 ghost use Rattle.flow_cost.specs.Cost.{IsWithin};
 
+use crate::spans::assert_spans;
 use flow_cost::{Absolute, Band, Either, Square};
 use flow_graph::{ArcId, Graph, NodeId};
 use flow_residual::{Room, State, Steps};
@@ -68,17 +69,6 @@ const fn open(from: u32, to: u32) -> Link {
 const FAR: i64 = 1_000_000_000_000;
 
 type LinkCost = Either<Square, Either<Absolute, Band>>;
-
-// Tests that the bounds lie within the span of a square.
-fn assert_spans(rt: &impl Abort, graph: &Graph<u32, u32>)
-    ensures { All (λ arc. IsWithin (pos (10 ^ 12)) arc.lo × IsWithin (pos (10 ^ 12)) arc.hi) graph.now.arcs }
-{
-    for a in 0..graph.arc_count() {
-        let (lo, hi) = graph.bounds(ArcId(a));
-        assert!(rt; lo >= -1_000_000_000_000);
-        assert!(rt; hi <= 1_000_000_000_000);
-    }
-}
 
 // The graph of some nodes and these arcs.
 fn graph_of(rt: &impl Abort, alloc: Global, nodes: u32, links: &[Link]) -> Graph<u32, u32> {
