@@ -3,10 +3,11 @@
 ghost use Rattle.std.specs.Prelude.{All, pos, ◌*◌, ◌^◌};
 ghost use Rattle.flow_cost.specs.Cost.{IsWithin};
 
+use crate::graphs::{add_arcs, add_nodes};
 use crate::spans::assert_spans;
 use flow_check::{contradicts, shows_least};
 use flow_cost::Square;
-use flow_graph::Graph;
+use flow_graph::{ArcId, Graph, NodeId};
 use std::process::Abort;
 use std::test::Fail;
 
@@ -17,14 +18,12 @@ fn two_nodes(
     there: (i64, i64),
     back: (i64, i64),
 ) -> Graph<u32, u32> {
-    assert!(rt; there.0 >= 0);
-    assert!(rt; there.1 <= 10);
-    assert!(rt; back.0 >= 0);
-    assert!(rt; back.1 <= 10);
-    assert!(rt; graph.add_node(0).is_ok());
-    assert!(rt; graph.add_node(1).is_ok());
-    assert!(rt; graph.add_arc(0, 0, 1, there.0, there.1).is_ok());
-    assert!(rt; graph.add_arc(1, 1, 0, back.0, back.1).is_ok());
+    add_nodes(rt, &mut graph, &[(0, Ok(NodeId(0))), (1, Ok(NodeId(1)))]);
+    let arcs = [
+        (0, 0, 1, there.0, there.1, Ok(ArcId(0))),
+        (1, 1, 0, back.0, back.1, Ok(ArcId(1))),
+    ];
+    add_arcs(rt, &mut graph, &arcs);
     graph
 }
 
