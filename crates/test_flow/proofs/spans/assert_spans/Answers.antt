@@ -5,7 +5,7 @@ use Rattle.std.proofs.lemmas.Option.{slice_get-get_or}
 use Rattle.flow_cost.specs.Cost.{IsWithin}
 use Rattle.flow_graph.specs.declared.arcs.Arc.{Arc}
 use Rattle.flow_graph.proofs.Lookups.{some_and, read_once}
-use Rattle.test_flow.proofs.checks.assert_spans.Goals as goal
+use Rattle.test_flow.proofs.spans.assert_spans.Goals as goal
 
 near : (arcs : List Arc) (a k : ℕ) (lo hi : ℤ) (arc : Arc) → IsSomeAnd (slice_get arcs a) (λ b. (lo ≡ b.lo) × (hi ≡ b.hi)) → k ≡ a → slice_get arcs k ≡ Some arc →
     neg_ℤ (pos (10 ^ 12)) ≤ℤ lo → lo ≤ℤ hi → hi ≤ℤ pos (10 ^ 12) → IsWithin (pos (10 ^ 12)) arc.lo × IsWithin (pos (10 ^ 12)) arc.hi
