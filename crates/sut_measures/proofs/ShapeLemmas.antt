@@ -1,5 +1,5 @@
 -- Names, status words and fitting follow the shape.
-use Rattle.std.proofs.Common.{◌≡◌, Bool, true, false, [], ◌∷◌, refl}
+use Rattle.std.proofs.Common.{◌≡◌, Bool, true, false, refl}
 use Rattle.std.specs.Prelude.{◌&&◌}
 use Rattle.sut_classes.specs.ClassLists.{ClassLists}
 use Rattle.sut_classes.specs.declared.ids.Column.TheVariants as column

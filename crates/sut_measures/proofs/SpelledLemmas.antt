@@ -1,5 +1,5 @@
 -- What is read by the shape of a kind is what a name of the kind spells.
-use Rattle.std.proofs.Common.{◌≡◌, ℕ, List, [], Result, Ok, refl}
+use Rattle.std.proofs.Common.{◌≡◌, ℕ, List, [], Ok}
 use Rattle.sut_records.specs.FirstFault.{and_then}
 use Rattle.sut_classes.specs.ClassLists.{ClassLists}
 use Rattle.sut_measures.specs.KindPlaces.{cell_at, total_at, group_total_at, account_at, group_account_at, place_read, two_read, cell_read}

@@ -1,4 +1,4 @@
-use Rattle.std.proofs.Common.{◌≡◌, ◌∙◌, ◌++◌, ℕ, List, ap, subst}
+use Rattle.std.proofs.Common.{◌∙◌, ap}
 use Rattle.sut_measures.specs.Shapes.{shape_fits}
 use Rattle.sut_measures.proofs.ShapeLemmas.{total-fits}
 use Rattle.sut_measures.proofs.fitting.total_fits.Goals as goal

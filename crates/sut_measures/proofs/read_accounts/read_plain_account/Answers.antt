@@ -1,4 +1,4 @@
-use Rattle.std.proofs.Common.{◌≡◌, ◌∙◌, ap, Ok, Result}
+use Rattle.std.proofs.Common.{◌∙◌, ap, Ok, Result}
 use Rattle.sut_records.specs.FirstFault.{and_then}
 use Rattle.sut_measures.specs.KindPlaces.{account_at, two_read}
 use Rattle.sut_measures.specs.Shapes.{account_shape}

@@ -1,4 +1,4 @@
-use Rattle.std.proofs.Common.{◌≡◌, ◌∙◌, ap, Result}
+use Rattle.std.proofs.Common.{◌∙◌, ap, Result}
 use Rattle.sut_records.specs.FirstFault.{and_then}
 use Rattle.sut_measures.specs.KindPlaces.{cell_at, cell_read, place_read, two_read}
 use Rattle.sut_measures.specs.Shapes.{Shape, seen, cell_shape}
