@@ -7,7 +7,7 @@ use no_memory::NoMemory;
 use std::alloc::Global;
 
 /// The nodes by groups, each joined by open arcs.
-#[derive(Debug, Drop)]
+#[derive(Drop)]
 pub(crate) struct Groups {
     /// The group of each node.
     of: Vec<Option<u32>>,

@@ -12,7 +12,7 @@ use std::alloc::Global;
 
 /// The contracted network: the groups are its nodes. Potentials are kept times a power of two above the number of groups,
 /// so that an error of 1 in each can't add up to a unit around a cycle.
-#[derive(Debug, Drop)]
+#[derive(Drop)]
 pub(crate) struct Net {
     /// The arcs of the graph by their places. Those within a group are looked at no more.
     pub(crate) edges: Vec<Edge>,
