@@ -7,3 +7,4 @@ pub mod Excesses
 pub mod Kept
 pub mod Settles
 pub mod Slopes
+pub mod Written

@@ -1,6 +1,9 @@
 -- What a search has shown where it ends.
-use Rattle.std.proofs.Common.{◌≡◌, ◌≢◌, ℕ, ◌<◌, ◌≤◌, ◌*◌, ◌^◌, true, false, List, length, get_or, Some, slice_get, ◌↔◌, ap, sym, subst, ◌∙◌, arith, ℤ, pos, ◌-ℤ◌, ◌≤ℤ◌, All}
+use Rattle.std.proofs.Common.{◌≡◌, ◌≢◌, ℕ, ◌<◌, ◌≤◌, ◌*◌, ◌^◌, true, false, List, length, get_or, Some, slice_get, ◌↔◌, ap, sym, subst, ◌∙◌, arith, ℤ, pos, negsuc, ◌-ℤ◌, ◌≤ℤ◌, All}
+use Rattle.std.proofs.lemmas.List.{get_or_read}
 use Rattle.std.proofs.lemmas.Option.{get_or_from_slice_get, slice_get-get_or}
+use mir.Syntax.{w128}
+use mir.Val.{to_z, of_z}
 use Rattle.flow_cost.specs.Cost.{IsWithin}
 use Rattle.flow_graph.specs.Network.{IsArcAmong}
 use Rattle.flow_graph.specs.Condition.{ArePotentials}
@@ -12,6 +15,7 @@ use Rattle.flow_residual.specs.Edges.{potential_at}
 use Rattle.flow_search.specs.Labels.{Labels, distance, IsDone, IsReached, IsSearched, IsRelaxing, labels_of}
 use Rattle.flow_search.specs.Frontier.{Takes, TakesNone, IsGain}
 use Rattle.flow_search.proofs.Labelled.{taken, others_relaxed}
+use Rattle.flow_search.proofs.Offered.{kept_distance}
 use Rattle.flow_search.proofs.Ways.{with_potentials, new_condition, held_path, reach_from_done, done_from_reach, small_distance, reached_in}
 
 module _ {N A C : Type 0} (value : C → ℤ → ℤ) (step : ℤ) (s : Flow N A C) where
@@ -37,6 +41,13 @@ module _ {N A C : Type 0} (value : C → ℤ → ℤ) (step : ℤ) (s : Flow N A
         let r = end_relaxing in
         let n = r.explored.near room.last.0 r.done in
         (n.0.nonneg, small_distance value step s (distance (labels_of room) room.last.0) (labels_of room) room.last.0 r.explored small few there n.0)
+
+    -- its distance, as it is read
+    pub end_read : ArePotentials (pos (2 * 10 ^ 22)) (length s.graph.nodes) s.potentials → length s.graph.nodes ≤ 262_144 → (r : ℤ) → r ≡ get_or room.dist.items room.last.0 r →
+        to_z w128 (of_z w128 r) ≡ distance (labels_of room) room.last.0
+    end_read small few r e =
+        let w : room.last.0 < length room.dist.items = subst (λ z. room.last.0 < z) (sym end_relaxing.explored.frontier.dist) there in
+        kept_distance r (distance (labels_of room) room.last.0) (get_or_read room.dist.items room.last.0 r w e (negsuc 0)) (end_distance small few).1
 
     module _ (ps : List ℤ) (gains : (v : ℕ) → v < length s.graph.nodes → IsGain (distance (labels_of room) v) (distance (labels_of room) room.last.0) (get_or ps v (pos 0) -ℤ potential_at s v)) where
       ended_with : IsEnded room (with_potentials s ps)

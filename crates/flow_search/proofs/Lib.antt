@@ -3,6 +3,8 @@ pub mod Followed
 pub mod Heaps
 pub mod Labelled
 pub mod Lists
+pub mod Offered
 pub mod Ready
+pub mod Sums
 pub mod Touching
 pub mod Ways

@@ -4,7 +4,7 @@ use flow_graph::{ArcId, Name};
 use flow_residual::State;
 
 /// An arc between two groups, with its flow and the slopes of its cost next to it.
-#[derive(Clone, Copy, Debug)]
+#[derive(Clone, Copy)]
 pub(crate) struct Edge {
     pub(crate) tail: u32,
     pub(crate) head: u32,
@@ -18,7 +18,7 @@ pub(crate) struct Edge {
 }
 
 /// An arc at one of its ends.
-#[derive(Clone, Copy, Debug)]
+#[derive(Clone, Copy)]
 pub(crate) struct Half {
     pub(crate) arc: u32,
     /// The end is the arc's tail.

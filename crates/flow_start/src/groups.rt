@@ -7,7 +7,7 @@ use no_memory::NoMemory;
 use std::alloc::Global;
 
 /// The nodes by groups, each joined by open arcs.
-#[derive(Debug, Drop)]
+#[derive(Drop)]
 pub(crate) struct Groups {
     /// The group of each node.
     of: Vec<Option<u32>>,
@@ -23,7 +23,8 @@ pub(crate) struct Groups {
 impl Groups {
     /// The group of a node.
     pub(crate) fn of(&self, node: NodeId) -> u32 {
-        read(&self.of, node.0, None).unwrap_or(0)
+        let group = read(&self.of, node.0, None);
+        group.unwrap_or(0)
     }
 
     /// Meets a node, where it was not met yet.

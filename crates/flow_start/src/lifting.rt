@@ -9,7 +9,7 @@ use no_memory::NoMemory;
 use std::alloc::Global;
 
 /// A flow for each arc, and a potential for each node.
-#[derive(Debug, Drop)]
+#[derive(Drop)]
 pub(crate) struct Plan {
     pub(crate) flows: Vec<i64>,
     pub(crate) potentials: Vec<i128>,

@@ -19,8 +19,8 @@ pub(crate) fn write<T: Copy>(xs: &mut [T], place: u32, value: T) {
 
 /// Adds to the number at a place, where the place is there.
 pub(crate) fn add(xs: &mut [i128], place: u32, by: i128) {
-    let sum = read(xs, place, 0).saturating_add(by);
-    write(xs, place, sum);
+    let total = read(xs, place, 0).saturating_add(by);
+    write(xs, place, total);
 }
 
 /// Writes a value at each place.
@@ -32,9 +32,5 @@ pub(crate) fn fill<T: Copy>(xs: &mut [T], value: T) {
 
 /// So many copies of a value.
 pub(crate) fn filled<T: Copy>(alloc: Global, count: u32, value: T) -> Result<Vec<T>, NoMemory> {
-    let mut items = Vec::new(alloc);
-    for _made in 0..count {
-        items.push(value)?;
-    }
-    Ok(items)
+    Ok(vec![in alloc; value; count as usize]?)
 }

@@ -1,17 +1,18 @@
 use crate::asking::nearest;
 use crate::edges::{Edge, Half};
-use crate::groups::Groups;
+use crate::groups::{Groups, ends};
 use crate::lists::{add, fill, filled, read, write};
 use crate::rings::Ring;
+use crate::windows::bounds;
 use flow_cost::Cost;
-use flow_graph::{ArcId, Name};
+use flow_graph::{Name, NodeId};
 use flow_residual::State;
 use no_memory::NoMemory;
 use std::alloc::Global;
 
 /// The contracted network: the groups are its nodes. Potentials are kept times a power of two above the number of groups,
 /// so that an error of 1 in each can't add up to a unit around a cycle.
-#[derive(Debug, Drop)]
+#[derive(Drop)]
 pub(crate) struct Net {
     /// The arcs of the graph by their places. Those within a group are looked at no more.
     pub(crate) edges: Vec<Edge>,
@@ -43,7 +44,26 @@ fn bits_above(x: u32) -> u32 {
     u32::BITS - x.leading_zeros()
 }
 
-/// The arcs of a state between groups, with bounds cut to the window and flows as they settle at price 0.
+/// An arc of a state between its groups, with bounds cut to the window and the flow that settles it at price 0.
+fn edge_of<N: Name, A: Name, C: Cost>(
+    s: &State<N, A, C>,
+    groups: &Groups,
+    window: i64,
+    a: u32,
+) -> Edge {
+    let (tail, head) = ends(s, a);
+    let (lo, hi) = bounds(s, a);
+    let least = window.saturating_neg();
+    let edge = Edge::between(
+        groups.of(NodeId(tail)),
+        groups.of(NodeId(head)),
+        nearest(least, window, lo),
+        nearest(least, window, hi),
+    );
+    edge.unpriced(s, a)
+}
+
+/// The arcs of a state between groups.
 fn edges_of<N: Name, A: Name, C: Cost>(
     alloc: Global,
     s: &State<N, A, C>,
@@ -52,13 +72,7 @@ fn edges_of<N: Name, A: Name, C: Cost>(
 ) -> Result<Vec<Edge>, NoMemory> {
     let mut edges = Vec::new(alloc);
     for a in 0..s.graph().arc_count() {
-        let (tail, head) = s.graph().ends(ArcId(a));
-        let (lo, hi) = s.graph().bounds(ArcId(a));
-        let least = window.saturating_neg();
-        let lo = nearest(least, window, lo);
-        let hi = nearest(least, window, hi);
-        let edge = Edge::between(groups.of(tail), groups.of(head), lo, hi);
-        edges.push(edge.unpriced(s, a))?;
+        edges.push(edge_of(s, groups, window, a))?;
     }
     Ok(edges)
 }
@@ -178,7 +192,9 @@ impl Net {
 
     /// How far up the potential rises along an arc.
     pub(crate) fn rise(&self, edge: &Edge) -> i128 {
-        read(&self.potentials, edge.head, 0).saturating_sub(read(&self.potentials, edge.tail, 0))
+        let above = read(&self.potentials, edge.head, 0);
+        let below = read(&self.potentials, edge.tail, 0);
+        above.saturating_sub(below)
     }
 
     /// A price in whole units as potentials are kept.

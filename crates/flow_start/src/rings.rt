@@ -3,7 +3,7 @@ use no_memory::NoMemory;
 use std::alloc::Global;
 
 /// A queue of nodes, each at most once, first in and first out.
-#[derive(Debug, Drop)]
+#[derive(Drop)]
 pub(crate) struct Ring {
     places: Vec<u32>,
     held: Vec<bool>,

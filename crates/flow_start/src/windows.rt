@@ -6,12 +6,20 @@ use flow_residual::State;
 /// The widest window.
 const WIDEST: i64 = 1 << 59;
 
+/// The bounds of an arc; none but 0 where the arc is not there.
+pub(crate) fn bounds<N: Name, A: Name, C: Cost>(s: &State<N, A, C>, a: u32) -> (i64, i64) {
+    if a >= s.graph().arc_count() {
+        return (0, 0);
+    }
+    s.graph().bounds(ArcId(a))
+}
+
 /// The number within an arc's bounds that settles the arc at price 0, nearest to 0; 0 where the arc is not there.
 fn unpriced<N: Name, A: Name, C: Cost>(s: &State<N, A, C>, a: u32) -> i64 {
     if a >= s.graph().arc_count() {
         return 0;
     }
-    let (lo, hi) = s.graph().bounds(ArcId(a));
+    let (lo, hi) = bounds(s, a);
     settled(s.cost(ArcId(a)), nearest(lo, hi, 0), lo, hi, 0)
 }
 
@@ -37,6 +45,6 @@ pub(crate) fn is_open<N: Name, A: Name, C: Cost>(s: &State<N, A, C>, a: u32, win
     if a >= s.graph().arc_count() {
         return false;
     }
-    let (lo, hi) = s.graph().bounds(ArcId(a));
+    let (lo, hi) = bounds(s, a);
     lo <= window.saturating_neg() && hi >= window && is_flat(s.cost(ArcId(a)), lo, hi)
 }

@@ -10,9 +10,9 @@ use Rattle.sut_tables.specs.ProblemFacts.{ProblemFacts}
 use Rattle.sut_cert.specs.declared.answers.Answer.{Answer}
 use Rattle.sut_input.specs.declared.faults.InputFault.TheVariants as input
 use Rattle.sut_verify.specs.declared.verdicts.Verdict.TheVariants as verdict
-use Rattle.sut_check_status.specs.declared.statuses.CheckStatus.{CheckStatus}
-use Rattle.sut_check_status.specs.declared.statuses.CheckStatus.TheVariants.{Least, NoTable, Refused, NoMemory, Usage, BadSettings, BadClasses, BadSource, ReadFault, Missing, SinkFault, TooLong}
-use Rattle.sut_check_status.specs.declared.statuses.CheckStatus.TheVariants as status
+use Rattle.sut_check.specs.declared.statuses.CheckStatus.{CheckStatus}
+use Rattle.sut_check.specs.declared.statuses.CheckStatus.TheVariants.{Least, NoTable, Refused, NoMemory, Usage, BadSettings, BadClasses, BadSource, ReadFault, Missing, SinkFault, TooLong}
+use Rattle.sut_check.specs.declared.statuses.CheckStatus.TheVariants as status
 use Rattle.sut_check.specs.declared.faults.CheckFault.{CheckFault}
 use Rattle.sut_check.specs.declared.faults.CheckFault.TheVariants as fault
 use Rattle.sut_check.specs.Statuses.{status_of}

@@ -3,8 +3,8 @@ use Rattle.std.specs.Prelude.{◌≡◌, ◌⊎◌, ℕ, List, []}
 use Rattle.sut_tables.specs.ProblemFacts.{ProblemFacts}
 use Rattle.sut_cert.specs.declared.answers.Answer.{Answer}
 use Rattle.sut_verify.specs.declared.verdicts.Verdict.TheVariants as verdict
-use Rattle.sut_check_status.specs.declared.statuses.CheckStatus.{CheckStatus}
-use Rattle.sut_check_status.specs.declared.statuses.CheckStatus.TheVariants as status
+use Rattle.sut_check.specs.declared.statuses.CheckStatus.{CheckStatus}
+use Rattle.sut_check.specs.declared.statuses.CheckStatus.TheVariants as status
 use Rattle.sut_check.specs.declared.judging.Judged.{Judged}
 use Rattle.sut_check.specs.declared.judging.Judged.TheVariants.{Least, NoTable, Refused}
 use Rattle.sut_check.specs.Findings.{FindsLeast, FindsNoTable, check_text, verdict_of}

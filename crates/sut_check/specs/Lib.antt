@@ -1,3 +1,7 @@
+pub mod CheckCodes
+pub mod ReasonTexts
+pub mod CheckFaultWords
+pub mod CheckLines
 pub mod CheckWords
 pub mod Claims
 pub mod Statuses

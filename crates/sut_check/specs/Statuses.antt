@@ -9,8 +9,8 @@ use Rattle.sut_input.specs.declared.faults.InputFault.{InputFault}
 use Rattle.sut_input.specs.declared.faults.InputFault.TheVariants as input
 use Rattle.sut_verify.specs.declared.verdicts.Verdict.{Verdict}
 use Rattle.sut_verify.specs.declared.verdicts.Verdict.TheVariants as verdict
-use Rattle.sut_check_status.specs.declared.statuses.CheckStatus.{CheckStatus}
-use Rattle.sut_check_status.specs.declared.statuses.CheckStatus.TheVariants as status
+use Rattle.sut_check.specs.declared.statuses.CheckStatus.{CheckStatus}
+use Rattle.sut_check.specs.declared.statuses.CheckStatus.TheVariants as status
 use Rattle.sut_check.specs.declared.faults.CheckFault.{CheckFault}
 use Rattle.sut_check.specs.declared.faults.CheckFault.TheVariants.{Input, BadCertificate, BadTable}
 

@@ -10,13 +10,13 @@ ghost use Rattle.sut_check.specs.Findings.{IsClaimFor, check_text, verdict_of};
 ghost use Rattle.sut_check.specs.Judged.{EndsAs, lines_in};
 ghost use Rattle.sut_check.specs.CheckEnds.{AnswersCheck, AnswersClaim, AreLines, IfReadFault, Prints};
 
+use crate::CheckStatus;
 use crate::claims::read_claim;
 use crate::faults::status_of;
 use crate::judging::{Judged, judge};
 use crate::words::source_named;
 use std::alloc::Global;
 use sut_cert::Answer;
-use sut_check_status::CheckStatus;
 use sut_outside::{FileName, Shelf, Sink};
 use sut_tables::Problem;
 

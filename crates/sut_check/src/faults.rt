@@ -3,8 +3,8 @@
 ghost use Rattle.std.specs.Prelude.{◌≡◌};
 ghost use Rattle.sut_check.specs.Statuses.{certificate_fault, input_status, status_of, table_fault};
 
+use crate::CheckStatus;
 use sut_cert::{CertCause, CertFault};
-use sut_check_status::CheckStatus;
 use sut_input::InputFault;
 use sut_readback::{BalancedCause, BalancedFault};
 

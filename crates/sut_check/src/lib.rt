@@ -4,11 +4,14 @@
 
 pub mod checks;
 pub mod claims;
+mod fault_words;
 pub mod faults;
 mod files;
 mod judging;
 mod lines;
+pub mod reasons;
+pub mod statuses;
 mod words;
 
 pub use checks::check_run;
-pub use sut_check_status::CheckStatus;
+pub use statuses::CheckStatus;

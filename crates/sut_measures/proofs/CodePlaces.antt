@@ -19,6 +19,7 @@ use Rattle.sut_classes.specs.declared.ids.Column.TheVariants as column
 use Rattle.sut_measures.specs.DistinctCodes.{HasDistinctCodes}
 use Rattle.sut_measures.specs.Fits.{has_column}
 use Rattle.sut_measures.specs.Names.{code, column_code}
+use Rattle.sut_measures.specs.Shapes.{length_of}
 
 bytes_eq-refl : (xs : List ℕ) → bytes_eq xs xs ≡ true
 bytes_eq-refl xs = (bytes_eq-Decides xs xs).1 refl
@@ -36,18 +37,7 @@ position-distinct xs n distinct below =
     let within : nat_lt n (length xs) ≡ true = lt-ltb n (length xs) below in
     rw (first, within)
 
--- the length of an axis's list
-abbrev pub length_of : ClassLists → Axis → ℕ
-length_of cs axis.Product = length cs.products
-length_of cs axis.Industry = length cs.industries
-length_of cs axis.Final = length cs.finals
-length_of cs axis.Item = length cs.items
-length_of cs axis.Margin = length cs.margins
-length_of cs axis.Tax = length cs.taxes
-length_of cs axis.ProductGroup = length cs.product_groups
-length_of cs axis.IndustryGroup = length cs.industry_groups
-
-count_of-length : (cs : ClassLists) (a : Axis) → count_of cs a ≡ length_of cs a
+pub count_of-length : (cs : ClassLists) (a : Axis) → count_of cs a ≡ length_of cs a
 count_of-length cs axis.Product = length-map cs.products (λ (p : ProductClass). p.code)
 count_of-length cs axis.Industry = length-map cs.industries (λ (j : IndustryClass). j.code)
 count_of-length cs axis.Final = refl

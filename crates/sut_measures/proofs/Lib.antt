@@ -6,5 +6,7 @@ pub mod CodePlaces
 pub mod NameParts
 pub mod NamedLemmas
 pub mod KindLemmas
+pub mod ShapeLemmas
 pub mod ReadLemmas
+pub mod SpelledLemmas
 pub mod RoundTrip

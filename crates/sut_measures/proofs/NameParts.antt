@@ -9,10 +9,11 @@ use Rattle.sut_classes.specs.declared.ids.Axis.{Axis}
 use Rattle.sut_classes.specs.declared.ids.Column.{Column}
 use Rattle.sut_measures.specs.Fits.{has_column}
 use Rattle.sut_measures.specs.Names.{code, column_code}
+use Rattle.sut_measures.specs.Shapes.{length_of}
 use Rattle.sut_measures.specs.ReadNames.{code_in, column_in, nothing_in}
 use Rattle.sut_measures.specs.declared.faults.Field.{Field}
 use Rattle.sut_measures.specs.declared.faults.NameFault.{NameFault}
-use Rattle.sut_measures.proofs.CodePlaces.{length_of, code-place_of, column-column_of}
+use Rattle.sut_measures.proofs.CodePlaces.{code-place_of, column-column_of}
 
 or_fault-parts : {A R F : Type 0} (o : Option A) (fault : F) (next : A → Result R F) (P : R → Type 0)
     → ((x : A) → o ≡ Some x → IfOk (next x) P) → IfOk (or_fault o fault next) P

@@ -22,12 +22,12 @@ use Rattle.sut_measures.specs.declared.measures.Measure.{Measure}
 use Rattle.sut_measures.proofs.KindLemmas.{word-named, measure_of-none, account_of-none}
 use Rattle.sut_measures.proofs.NamedLemmas.{IsNamed, IsAccountNamed, cell-named, total-named, group-named, account-named, group_account-named}
 
-and_then-or_fault : {A B C F : Type 0} (o : Option A) (fault : F) (next : A → Result B F) (more : B → Result C F)
+pub and_then-or_fault : {A B C F : Type 0} (o : Option A) (fault : F) (next : A → Result B F) (more : B → Result C F)
     → and_then (or_fault o fault next) more ≡ or_fault o fault (λ x. and_then (next x) more)
 and_then-or_fault (Some x) fault next more = refl
 and_then-or_fault None fault next more = refl
 
-and_then-only_if : {B C F : Type 0} (b : Bool) (fault : F) (next : Result B F) (more : B → Result C F)
+pub and_then-only_if : {B C F : Type 0} (b : Bool) (fault : F) (next : Result B F) (more : B → Result C F)
     → and_then (only_if b fault next) more ≡ only_if b fault (and_then next more)
 and_then-only_if true fault next more = refl
 and_then-only_if false fault next more = refl

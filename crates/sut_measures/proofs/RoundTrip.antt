@@ -11,6 +11,7 @@ use Rattle.sut_classes.specs.declared.ids.Axis.{Axis}
 use Rattle.sut_classes.specs.declared.ids.Axis.TheVariants as axis
 use Rattle.sut_classes.specs.declared.ids.Column.{Column}
 use Rattle.sut_classes.specs.declared.ids.Column.TheVariants as column
+use Rattle.sut_measures.specs.Shapes.{length_of}
 use Rattle.sut_measures.specs.DistinctCodes.{HasDistinctCodes}
 use Rattle.sut_measures.specs.Fits.{fits, cell_fits, total_fits, account_fits, has_column}
 use Rattle.sut_measures.specs.Names.{Name, name3, cell_name, total_name, measure_name, name_fields, code, column_code, AccountName, account2, account_name, account_fields}
@@ -27,7 +28,7 @@ use Rattle.sut_measures.specs.declared.measures.Total.{Total}
 use Rattle.sut_measures.specs.declared.measures.Total.TheVariants as total
 use Rattle.sut_measures.specs.declared.measures.Measure.{Measure}
 use Rattle.sut_measures.specs.declared.measures.Measure.TheVariants as measure
-use Rattle.sut_measures.proofs.CodePlaces.{length_of, place_of-code}
+use Rattle.sut_measures.proofs.CodePlaces.{place_of-code}
 use Rattle.sut_measures.proofs.NamedLemmas.{IsNamed, IsAccountNamed}
 use Rattle.sut_measures.proofs.ReadLemmas.{measure_of-named, account_of-named}
 

@@ -7,3 +7,5 @@ pub mod ReadNames
 pub mod Words
 pub mod Kinds
 pub mod DistinctCodes
+pub mod Shapes
+pub mod KindPlaces

@@ -4,7 +4,7 @@ ghost use Rattle.std.specs.Prelude.{◌≡◌};
 ghost use Rattle.sut_measures.specs.Kinds as words;
 
 /// The kinds of cells.
-#[derive(Debug, Clone, Copy, PartialEq, Eq)]
+#[derive(Clone, Copy)]
 pub enum CellKind {
     Make,
     Import,
@@ -16,7 +16,7 @@ pub enum CellKind {
 }
 
 /// The kinds of totals but those of groups.
-#[derive(Debug, Clone, Copy, PartialEq, Eq)]
+#[derive(Clone, Copy)]
 pub enum TotalKind {
     Purchase,
     Supply,
@@ -34,7 +34,7 @@ pub enum TotalKind {
 }
 
 /// The totals of groups.
-#[derive(Debug, Clone, Copy, PartialEq, Eq)]
+#[derive(Clone, Copy)]
 pub enum GroupKind {
     Make,
     Import,
@@ -45,7 +45,7 @@ pub enum GroupKind {
 }
 
 /// The kinds of accounts but those of groups.
-#[derive(Debug, Clone, Copy, PartialEq, Eq)]
+#[derive(Clone, Copy)]
 pub enum AccountKind {
     Supplied,
     Used,
@@ -67,7 +67,7 @@ pub enum AccountKind {
 }
 
 /// The accounts of groups.
-#[derive(Debug, Clone, Copy, PartialEq, Eq)]
+#[derive(Clone, Copy)]
 pub enum GroupAccountKind {
     Making,
     Importing,
@@ -77,26 +77,53 @@ pub enum GroupAccountKind {
     Item,
 }
 
+fn cell_word(kind: CellKind) -> &'static [u8]
+    ensures { result.now ≡ words.cell_word kind }
+{
+    match kind {
+        CellKind::Make => b"make",
+        CellKind::Import => b"import",
+        CellKind::Basic => b"basic",
+        CellKind::Margin => b"margin",
+        CellKind::Tax => b"tax",
+        CellKind::Service => b"service",
+        CellKind::Added => b"added",
+    }
+}
+
 /// The kind of cells of this word.
 pub fn cell_kind(word: &[u8]) -> Option<CellKind>
     ensures { result ≡ words.kind_named words.cell_word words.cell_kinds word.now }
 {
-    if word == b"make".as_slice() {
-        Some(CellKind::Make)
-    } else if word == b"import".as_slice() {
-        Some(CellKind::Import)
-    } else if word == b"basic".as_slice() {
-        Some(CellKind::Basic)
-    } else if word == b"margin".as_slice() {
-        Some(CellKind::Margin)
-    } else if word == b"tax".as_slice() {
-        Some(CellKind::Tax)
-    } else if word == b"service".as_slice() {
-        Some(CellKind::Service)
-    } else if word == b"added".as_slice() {
-        Some(CellKind::Added)
-    } else {
-        None
+    let kinds = [
+        CellKind::Make,
+        CellKind::Import,
+        CellKind::Basic,
+        CellKind::Margin,
+        CellKind::Tax,
+        CellKind::Service,
+        CellKind::Added,
+    ];
+    kinds.iter().copied().find(|kind| word == cell_word(*kind))
+}
+
+fn total_word(kind: TotalKind) -> &'static [u8]
+    ensures { result.now ≡ words.total_word kind }
+{
+    match kind {
+        TotalKind::Purchase => b"purchase",
+        TotalKind::Supply => b"supply",
+        TotalKind::Output => b"output",
+        TotalKind::Inputs => b"inputs",
+        TotalKind::ValueAdded => b"value_added",
+        TotalKind::ItemTotal => b"item_total",
+        TotalKind::FinalTotal => b"final_total",
+        TotalKind::ImportTotal => b"import_total",
+        TotalKind::MarginTotal => b"margin_total",
+        TotalKind::MarginProduct => b"margin_product",
+        TotalKind::TaxTotal => b"tax_total",
+        TotalKind::TaxProduct => b"tax_product",
+        TotalKind::Gdp => b"gdp",
     }
 }
 
@@ -104,34 +131,34 @@ pub fn cell_kind(word: &[u8]) -> Option<CellKind>
 pub fn total_kind(word: &[u8]) -> Option<TotalKind>
     ensures { result ≡ words.kind_named words.total_word words.total_kinds word.now }
 {
-    if word == b"purchase".as_slice() {
-        Some(TotalKind::Purchase)
-    } else if word == b"supply".as_slice() {
-        Some(TotalKind::Supply)
-    } else if word == b"output".as_slice() {
-        Some(TotalKind::Output)
-    } else if word == b"inputs".as_slice() {
-        Some(TotalKind::Inputs)
-    } else if word == b"value_added".as_slice() {
-        Some(TotalKind::ValueAdded)
-    } else if word == b"item_total".as_slice() {
-        Some(TotalKind::ItemTotal)
-    } else if word == b"final_total".as_slice() {
-        Some(TotalKind::FinalTotal)
-    } else if word == b"import_total".as_slice() {
-        Some(TotalKind::ImportTotal)
-    } else if word == b"margin_total".as_slice() {
-        Some(TotalKind::MarginTotal)
-    } else if word == b"margin_product".as_slice() {
-        Some(TotalKind::MarginProduct)
-    } else if word == b"tax_total".as_slice() {
-        Some(TotalKind::TaxTotal)
-    } else if word == b"tax_product".as_slice() {
-        Some(TotalKind::TaxProduct)
-    } else if word == b"gdp".as_slice() {
-        Some(TotalKind::Gdp)
-    } else {
-        None
+    let kinds = [
+        TotalKind::Purchase,
+        TotalKind::Supply,
+        TotalKind::Output,
+        TotalKind::Inputs,
+        TotalKind::ValueAdded,
+        TotalKind::ItemTotal,
+        TotalKind::FinalTotal,
+        TotalKind::ImportTotal,
+        TotalKind::MarginTotal,
+        TotalKind::MarginProduct,
+        TotalKind::TaxTotal,
+        TotalKind::TaxProduct,
+        TotalKind::Gdp,
+    ];
+    kinds.iter().copied().find(|kind| word == total_word(*kind))
+}
+
+fn group_word(kind: GroupKind) -> &'static [u8]
+    ensures { result.now ≡ words.group_word kind }
+{
+    match kind {
+        GroupKind::Make => b"make_group",
+        GroupKind::Import => b"import_group",
+        GroupKind::Purchase => b"purchase_group",
+        GroupKind::Margin => b"margin_group",
+        GroupKind::Tax => b"tax_group",
+        GroupKind::Item => b"item_group",
     }
 }
 
@@ -139,20 +166,38 @@ pub fn total_kind(word: &[u8]) -> Option<TotalKind>
 pub fn group_kind(word: &[u8]) -> Option<GroupKind>
     ensures { result ≡ words.kind_named words.group_word words.group_kinds word.now }
 {
-    if word == b"make_group".as_slice() {
-        Some(GroupKind::Make)
-    } else if word == b"import_group".as_slice() {
-        Some(GroupKind::Import)
-    } else if word == b"purchase_group".as_slice() {
-        Some(GroupKind::Purchase)
-    } else if word == b"margin_group".as_slice() {
-        Some(GroupKind::Margin)
-    } else if word == b"tax_group".as_slice() {
-        Some(GroupKind::Tax)
-    } else if word == b"item_group".as_slice() {
-        Some(GroupKind::Item)
-    } else {
-        None
+    let kinds = [
+        GroupKind::Make,
+        GroupKind::Import,
+        GroupKind::Purchase,
+        GroupKind::Margin,
+        GroupKind::Tax,
+        GroupKind::Item,
+    ];
+    kinds.iter().copied().find(|kind| word == group_word(*kind))
+}
+
+fn account_word(kind: AccountKind) -> &'static [u8]
+    ensures { result.now ≡ words.account_word kind }
+{
+    match kind {
+        AccountKind::Supplied => b"supplied",
+        AccountKind::Used => b"used",
+        AccountKind::Bought => b"bought",
+        AccountKind::Buying => b"buying",
+        AccountKind::Adding => b"adding",
+        AccountKind::Industry => b"industry",
+        AccountKind::Making => b"making",
+        AccountKind::Final => b"final",
+        AccountKind::Item => b"item",
+        AccountKind::Imports => b"imports",
+        AccountKind::Services => b"services",
+        AccountKind::Margins => b"margins",
+        AccountKind::MarginOf => b"margin_of",
+        AccountKind::Taxes => b"taxes",
+        AccountKind::TaxOf => b"tax_of",
+        AccountKind::Spending => b"spending",
+        AccountKind::Income => b"income",
     }
 }
 
@@ -160,42 +205,41 @@ pub fn group_kind(word: &[u8]) -> Option<GroupKind>
 pub fn account_kind(word: &[u8]) -> Option<AccountKind>
     ensures { result ≡ words.kind_named words.account_word words.account_kinds word.now }
 {
-    if word == b"supplied".as_slice() {
-        Some(AccountKind::Supplied)
-    } else if word == b"used".as_slice() {
-        Some(AccountKind::Used)
-    } else if word == b"bought".as_slice() {
-        Some(AccountKind::Bought)
-    } else if word == b"buying".as_slice() {
-        Some(AccountKind::Buying)
-    } else if word == b"adding".as_slice() {
-        Some(AccountKind::Adding)
-    } else if word == b"industry".as_slice() {
-        Some(AccountKind::Industry)
-    } else if word == b"making".as_slice() {
-        Some(AccountKind::Making)
-    } else if word == b"final".as_slice() {
-        Some(AccountKind::Final)
-    } else if word == b"item".as_slice() {
-        Some(AccountKind::Item)
-    } else if word == b"imports".as_slice() {
-        Some(AccountKind::Imports)
-    } else if word == b"services".as_slice() {
-        Some(AccountKind::Services)
-    } else if word == b"margins".as_slice() {
-        Some(AccountKind::Margins)
-    } else if word == b"margin_of".as_slice() {
-        Some(AccountKind::MarginOf)
-    } else if word == b"taxes".as_slice() {
-        Some(AccountKind::Taxes)
-    } else if word == b"tax_of".as_slice() {
-        Some(AccountKind::TaxOf)
-    } else if word == b"spending".as_slice() {
-        Some(AccountKind::Spending)
-    } else if word == b"income".as_slice() {
-        Some(AccountKind::Income)
-    } else {
-        None
+    let kinds = [
+        AccountKind::Supplied,
+        AccountKind::Used,
+        AccountKind::Bought,
+        AccountKind::Buying,
+        AccountKind::Adding,
+        AccountKind::Industry,
+        AccountKind::Making,
+        AccountKind::Final,
+        AccountKind::Item,
+        AccountKind::Imports,
+        AccountKind::Services,
+        AccountKind::Margins,
+        AccountKind::MarginOf,
+        AccountKind::Taxes,
+        AccountKind::TaxOf,
+        AccountKind::Spending,
+        AccountKind::Income,
+    ];
+    kinds
+        .iter()
+        .copied()
+        .find(|kind| word == account_word(*kind))
+}
+
+fn group_account_word(kind: GroupAccountKind) -> &'static [u8]
+    ensures { result.now ≡ words.group_account_word kind }
+{
+    match kind {
+        GroupAccountKind::Making => b"making_in",
+        GroupAccountKind::Importing => b"importing",
+        GroupAccountKind::Buying => b"buying_in",
+        GroupAccountKind::Margin => b"margin_in",
+        GroupAccountKind::Tax => b"tax_in",
+        GroupAccountKind::Item => b"item_in",
     }
 }
 
@@ -203,19 +247,16 @@ pub fn account_kind(word: &[u8]) -> Option<AccountKind>
 pub fn group_account_kind(word: &[u8]) -> Option<GroupAccountKind>
     ensures { result ≡ words.kind_named words.group_account_word words.group_account_kinds word.now }
 {
-    if word == b"making_in".as_slice() {
-        Some(GroupAccountKind::Making)
-    } else if word == b"importing".as_slice() {
-        Some(GroupAccountKind::Importing)
-    } else if word == b"buying_in".as_slice() {
-        Some(GroupAccountKind::Buying)
-    } else if word == b"margin_in".as_slice() {
-        Some(GroupAccountKind::Margin)
-    } else if word == b"tax_in".as_slice() {
-        Some(GroupAccountKind::Tax)
-    } else if word == b"item_in".as_slice() {
-        Some(GroupAccountKind::Item)
-    } else {
-        None
-    }
+    let kinds = [
+        GroupAccountKind::Making,
+        GroupAccountKind::Importing,
+        GroupAccountKind::Buying,
+        GroupAccountKind::Margin,
+        GroupAccountKind::Tax,
+        GroupAccountKind::Item,
+    ];
+    kinds
+        .iter()
+        .copied()
+        .find(|kind| word == group_account_word(*kind))
 }

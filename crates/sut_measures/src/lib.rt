@@ -6,12 +6,14 @@ pub mod endpoints;
 pub mod faults;
 mod fields;
 pub mod fitting;
+mod kind_places;
 mod kinds;
 pub mod measures;
 pub mod names;
 pub mod orders;
 mod read_accounts;
 mod read_names;
+mod shapes;
 pub mod sums;
 pub mod words;
 

@@ -3,9 +3,11 @@
 ghost use Rattle.std.specs.Prelude.{All, pos, ◌*◌, ◌^◌};
 ghost use Rattle.flow_cost.specs.Cost.{IsWithin};
 
+use crate::graphs::{add_arcs, add_nodes};
+use crate::spans::assert_spans;
 use flow_check::{contradicts, shows_least};
 use flow_cost::Square;
-use flow_graph::{ArcId, Graph};
+use flow_graph::{ArcId, Graph, NodeId};
 use std::process::Abort;
 use std::test::Fail;
 
@@ -16,26 +18,13 @@ fn two_nodes(
     there: (i64, i64),
     back: (i64, i64),
 ) -> Graph<u32, u32> {
-    assert!(rt; there.0 >= 0);
-    assert!(rt; there.1 <= 10);
-    assert!(rt; back.0 >= 0);
-    assert!(rt; back.1 <= 10);
-    assert!(rt; graph.add_node(0).is_ok());
-    assert!(rt; graph.add_node(1).is_ok());
-    assert!(rt; graph.add_arc(0, 0, 1, there.0, there.1).is_ok());
-    assert!(rt; graph.add_arc(1, 1, 0, back.0, back.1).is_ok());
+    add_nodes(rt, &mut graph, &[(0, Ok(NodeId(0))), (1, Ok(NodeId(1)))]);
+    let arcs = [
+        (0, 0, 1, there.0, there.1, Ok(ArcId(0))),
+        (1, 1, 0, back.0, back.1, Ok(ArcId(1))),
+    ];
+    add_arcs(rt, &mut graph, &arcs);
     graph
-}
-
-/// Tests that the bounds lie within the span of a square.
-fn assert_spans(rt: &impl Abort, graph: &Graph<u32, u32>)
-    ensures { All (λ arc. IsWithin (pos (10 ^ 12)) arc.lo × IsWithin (pos (10 ^ 12)) arc.hi) graph.now.arcs }
-{
-    for a in 0..graph.arc_count() {
-        let (lo, hi) = graph.bounds(ArcId(a));
-        assert!(rt; lo >= -1_000_000_000_000);
-        assert!(rt; hi <= 1_000_000_000_000);
-    }
 }
 
 /// Tests that the potentials are in range.

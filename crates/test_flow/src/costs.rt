@@ -1,5 +1,8 @@
 //! Where numbers settle, and the ranges of costs.
 
+ghost use Rattle.std.specs.Prelude.{◌*◌, ◌^◌, ◌≤ℤ◌, pos};
+ghost use Rattle.flow_cost.specs.Cost.{IsWithin};
+
 use flow_cost::{Absolute, Band, Cost, Either, Free, Linear, Square, settle};
 use std::process::Abort;
 use std::test::Fail;
@@ -7,18 +10,33 @@ use std::test::Fail;
 /// A start, two bounds, a step and a slope, and where the start settles.
 type Case = (i64, i64, i64, i64, i128, i64);
 
-/// Where a number settles, after a test of what that requires.
-fn settled<C: Cost>(rt: &impl Abort, cost: &C, (x, lo, hi, step, slope, _want): Case) -> i64 {
-    let span = cost.span();
+/// Tests that a number lies between two bounds, and these within a span.
+fn assert_bounds(rt: &impl Abort, x: i64, lo: i64, hi: i64, span: i64)
+    ensures low { (lo ≤ℤ x) × IsWithin span lo }
+    ensures high { (x ≤ℤ hi) × IsWithin span hi }
+{
     assert!(rt; span >= 1);
     assert!(rt; lo >= -span);
     assert!(rt; lo <= x);
     assert!(rt; x <= hi);
     assert!(rt; hi <= span);
+}
+
+/// Tests that a step and a slope are in range.
+fn assert_step(rt: &impl Abort, step: i64, slope: i128)
+    ensures step { (pos 1 ≤ℤ step) × (step ≤ℤ pos (2 ^ 40)) }
+    ensures slope { IsWithin (pos (2 * 10 ^ 24)) slope }
+{
     assert!(rt; step >= 1);
     assert!(rt; step <= 1 << 40);
     assert!(rt; slope >= -2_000_000_000_000_000_000_000_000);
     assert!(rt; slope <= 2_000_000_000_000_000_000_000_000);
+}
+
+/// Where a number settles, after a test of what that requires.
+fn settled<C: Cost>(rt: &impl Abort, cost: &C, (x, lo, hi, step, slope, _want): Case) -> i64 {
+    assert_bounds(rt, x, lo, hi, cost.span());
+    assert_step(rt, step, slope);
     settle(cost, x, lo, hi, step, slope)
 }
 

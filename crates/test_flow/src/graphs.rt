@@ -6,22 +6,38 @@ use std::process::Abort;
 use std::test::Fail;
 
 /// A node's name, and what adding it gives.
-type NodeCase = (u32, Result<NodeId, GraphFault>);
+pub(crate) type NodeCase = (u32, Result<NodeId, GraphFault>);
 
 /// An arc's name, ends and bounds, and what adding it gives.
-type ArcCase = (u32, u32, u32, i64, i64, Result<ArcId, GraphFault>);
+pub(crate) type ArcCase = (u32, u32, u32, i64, i64, Result<ArcId, GraphFault>);
 
-fn add_nodes(rt: &impl Abort, graph: &mut Graph<u32, u32>, cases: &[NodeCase]) {
-    for (name, want) in cases {
-        assert_eq!(rt; graph.add_node(*name), *want, "node {name}");
+/// Tests what adding a node gives.
+pub(crate) fn add_node(rt: &impl Abort, graph: &mut Graph<u32, u32>, (name, want): NodeCase) {
+    assert_eq!(rt; graph.add_node(name), want, "node {name}");
+}
+
+/// Tests what adding an arc gives.
+pub(crate) fn add_arc(
+    rt: &impl Abort,
+    graph: &mut Graph<u32, u32>,
+    (name, from, to, lo, hi, want): ArcCase,
+) {
+    assert!(rt; lo >= -(1 << 60));
+    assert!(rt; hi <= 1 << 60);
+    assert_eq!(rt; graph.add_arc(name, from, to, lo, hi), want, "arc {name}");
+}
+
+/// Adds nodes.
+pub(crate) fn add_nodes(rt: &impl Abort, graph: &mut Graph<u32, u32>, cases: &[NodeCase]) {
+    for case in cases {
+        add_node(rt, graph, *case);
     }
 }
 
-fn add_arcs(rt: &impl Abort, graph: &mut Graph<u32, u32>, cases: &[ArcCase]) {
-    for &(name, from, to, lo, hi, want) in cases {
-        assert!(rt; lo >= -(1 << 60));
-        assert!(rt; hi <= 1 << 60);
-        assert_eq!(rt; graph.add_arc(name, from, to, lo, hi), want, "arc {name}");
+/// Adds arcs.
+pub(crate) fn add_arcs(rt: &impl Abort, graph: &mut Graph<u32, u32>, cases: &[ArcCase]) {
+    for case in cases {
+        add_arc(rt, graph, *case);
     }
 }
 
@@ -101,7 +117,7 @@ fn finds_by_name(rt: HostRuntime) {
 fn is_full_at_its_limits(rt: HostRuntime) {
     let mut graph: Graph<u32, u32> = Graph::new(rt.alloc());
     for node in 0..262_144 {
-        assert_eq!(rt; graph.add_node(node), Ok(NodeId(node)));
+        add_node(&rt, &mut graph, (node, Ok(NodeId(node))));
     }
     let faults = [
         (0, Err(GraphFault::Duplicate)),
@@ -109,7 +125,11 @@ fn is_full_at_its_limits(rt: HostRuntime) {
     ];
     add_nodes(&rt, &mut graph, &faults);
     for arc in 0..524_288 {
-        assert_eq!(rt; graph.add_arc(arc, arc % 262_144, 0, 0, 1), Ok(ArcId(arc)));
+        add_arc(
+            &rt,
+            &mut graph,
+            (arc, arc % 262_144, 0, 0, 1, Ok(ArcId(arc))),
+        );
     }
     let faults = [
         (524_288, 0, 0, 1, 0, Err(GraphFault::Crossed)),

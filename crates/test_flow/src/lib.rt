@@ -10,3 +10,5 @@ mod costs;
 mod graphs;
 #[cfg(test)]
 mod solves;
+#[cfg(test)]
+mod spans;

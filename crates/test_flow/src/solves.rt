@@ -3,6 +3,8 @@
 ghost use Rattle.std.specs.Prelude.{◌≡◌, ◌<◌, ◌*◌, ◌^◌, pos, All, IsTrue, length};
 ghost use Rattle.flow_cost.specs.Cost.{IsWithin};
 
+use crate::graphs::{add_arc, add_node};
+use crate::spans::assert_spans;
 use flow_cost::{Absolute, Band, Either, Square};
 use flow_graph::{ArcId, Graph, NodeId};
 use flow_residual::{Room, State, Steps};
@@ -69,32 +71,21 @@ const FAR: i64 = 1_000_000_000_000;
 
 type LinkCost = Either<Square, Either<Absolute, Band>>;
 
-// Tests that the bounds lie within the span of a square.
-fn assert_spans(rt: &impl Abort, graph: &Graph<u32, u32>)
-    ensures { All (λ arc. IsWithin (pos (10 ^ 12)) arc.lo × IsWithin (pos (10 ^ 12)) arc.hi) graph.now.arcs }
-{
-    for a in 0..graph.arc_count() {
-        let (lo, hi) = graph.bounds(ArcId(a));
-        assert!(rt; lo >= -1_000_000_000_000);
-        assert!(rt; hi <= 1_000_000_000_000);
-    }
+// Adds an arc, of the place that it gets as its name.
+fn add_link(rt: &impl Abort, graph: &mut Graph<u32, u32>, link: &Link) {
+    let place = graph.arc_count();
+    let id = Ok(ArcId(place));
+    add_arc(rt, graph, (place, link.from, link.to, link.lo, link.hi, id));
 }
 
 // The graph of some nodes and these arcs.
 fn graph_of(rt: &impl Abort, alloc: Global, nodes: u32, links: &[Link]) -> Graph<u32, u32> {
     let mut graph = Graph::new(alloc);
     for n in 0..nodes {
-        assert!(rt; graph.add_node(n).is_ok());
+        add_node(rt, &mut graph, (n, Ok(NodeId(n))));
     }
-    for (a, link) in links.iter().enumerate() {
-        assert!(rt; a < 1000);
-        assert!(rt; link.lo >= -1_000_000_000_000);
-        assert!(rt; link.hi <= 1_000_000_000_000);
-        assert!(rt;
-            graph
-                .add_arc(a as u32, link.from, link.to, link.lo, link.hi)
-                .is_ok()
-        );
+    for link in links {
+        add_link(rt, &mut graph, link);
     }
     graph
 }

@@ -50,8 +50,9 @@ fn check_weights(
     let Ok(settings) = read_settings(alloc, text) else {
         return Err(Fail::from("not read"));
     };
-    for (grade, target, want) in cases {
-        assert_eq!(rt; weight_of(&settings, grade, *target), *want, "{target}");
+    for &(grade, target, want) in cases {
+        assert!(rt; target >= 0 && target <= 3);
+        assert_eq!(rt; weight_of(&settings, grade, target), want, "{target}");
     }
     Ok(())
 }

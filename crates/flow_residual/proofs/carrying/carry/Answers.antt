@@ -1,26 +1,26 @@
-use Rattle.std.proofs.Common.{◌≡◌, ◌<◌, ◌^◌, length, pos, get_or, set, ◌+ℤ◌, ◌-ℤ◌, arith, length-set}
-use Rattle.std.proofs.lemmas.Int.{ints}
-use Rattle.std.proofs.lemmas.List.{get_or_read}
-use Rattle.std.proofs.lemmas.List.Elements.{All-set}
-use mir.Syntax.{w128}
-use mir.Val.{to_z, of_z}
+use Rattle.std.proofs.Common.{◌^◌, pos, sym, subst}
+use Rattle.std.proofs.lemmas.Int.{to_z-of_z}
+use mir.Syntax.{w64}
 use Rattle.flow_cost.specs.Cost.{IsWithin}
-use Rattle.flow_residual.proofs.Excesses.{carried_once, all_wider}
+use Rattle.flow_residual.proofs.Excesses.{all_wider}
+use Rattle.flow_residual.proofs.Written.{read_sum, tail_read, carried_by}
 use Rattle.flow_residual.proofs.carrying.carry.Goals as goal
 
+pub plus-more-requires-clause-sum : goal.plus-more-requires-clause-sum
+plus-more-requires-clause-sum c = (read_sum c.args.out.now.items c.args.head.0 c.index.result.now c.requires.head (all_wider c.args.out.now.items c.requires.small) c.index.ensures).small
+
+pub plus-more-requires-clause-x : goal.plus-more-requires-clause-x
+plus-more-requires-clause-x c = subst (λ z. IsWithin (pos (2 ^ 61)) z) (sym (to_z-of_z w64 c.args.x c.ranges.x)) c.requires.x
+
+pub minus-less-requires-clause-sum : goal.minus-less-requires-clause-sum
+minus-less-requires-clause-sum c =
+    (tail_read c.args.out.now.items c.args.tail.0 c.args.head.0 c.args.x c.index.result.now c.plus-more.result c.requires.tail c.requires.head c.requires.x c.ranges.x
+    c.requires.small c.index.ensures c.plus-more.ensures c.index-2.result.now c.index-2.ensures).small
+
+pub minus-less-requires-clause-x : goal.minus-less-requires-clause-x
+minus-less-requires-clause-x c = subst (λ z. IsWithin (pos (2 ^ 61)) z) (sym (to_z-of_z w64 c.args.x c.ranges.x)) c.requires.x
+
 pub returns-clause-carried : goal.returns-clause-carried
-returns-clause-carried c =
-    let h = c.requires.head in
-    let w = c.requires.x in
-    let r : c.index.result.now ≡ get_or c.args.out.now.items c.args.head.0 (pos 0) = get_or_read c.args.out.now.items c.args.head.0 c.index.result.now h c.index.ensures (pos 0) in
-    let s = c.requires.small c.args.head.0 (pos 0) h in
-    let m : to_z w128 (of_z w128 c.plus-more.result) ≡ get_or c.args.out.now.items c.args.head.0 (pos 0) +ℤ c.args.x = omega (arith, ints, r, s.low, s.high, c.plus-more.ensures, w.low, w.high) in
-    let t : c.args.tail.0 < length (set c.args.out.now.items c.args.head.0 (to_z w128 (of_z w128 c.plus-more.result))) = omega (arith, c.requires.tail, length-set c.args.out.now.items c.args.head.0 (to_z w128 (of_z w128 c.plus-more.result))) in
-    let r2 : c.index-2.result.now ≡ get_or (set c.args.out.now.items c.args.head.0 (to_z w128 (of_z w128 c.plus-more.result))) c.args.tail.0 (pos 0) =
-    get_or_read (set c.args.out.now.items c.args.head.0 (to_z w128 (of_z w128 c.plus-more.result))) c.args.tail.0 c.index-2.result.now t c.index-2.ensures (pos 0) in
-    let small : IsWithin (pos (2 ^ 91)) (to_z w128 (of_z w128 c.plus-more.result)) = record { low = omega (arith, ints, m, s.low, w.low); high = omega (arith, ints, m, s.high, w.high) } in
-    let all = All-set (IsWithin (pos (2 ^ 91))) c.args.out.now.items c.args.head.0 (to_z w128 (of_z w128 c.plus-more.result)) small (all_wider c.args.out.now.items c.requires.small) in
-    let s2 = all c.args.tail.0 (pos 0) t in
-    let l : to_z w128 (of_z w128 c.minus-less.result) ≡ get_or (set c.args.out.now.items c.args.head.0 (to_z w128 (of_z w128 c.plus-more.result))) c.args.tail.0 (pos 0) -ℤ c.args.x =
-    omega (arith, ints, r2, s2.low, s2.high, c.minus-less.ensures, w.low, w.high) in
-    λ n k. carried_once c.args.out.now.items c.args.tail.0 c.args.head.0 c.args.x (to_z w128 (of_z w128 c.plus-more.result)) (to_z w128 (of_z w128 c.minus-less.result)) c.requires.tail h m l n
+returns-clause-carried c = λ n k.
+    carried_by c.args.out.now.items c.args.tail.0 c.args.head.0 c.args.x c.index.result.now c.plus-more.result c.requires.tail c.requires.head c.requires.x c.ranges.x
+    c.requires.small c.index.ensures c.plus-more.ensures c.index-2.result.now c.minus-less.result c.index-2.ensures c.minus-less.ensures n

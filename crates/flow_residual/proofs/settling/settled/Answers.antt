@@ -22,7 +22,7 @@ pub returns : goal.returns
 returns g c =
     let fl : SFits w64 c.bounds-lo.result.0 = search rules in
     let fh : SFits w64 c.bounds-lo.result.1 = search rules in
-    let fr : SFits w64 c.settle.result = search rules in
+    let fr : SFits w64 c.settle.result = record { sfits = c.settle.type_inv } in
     let r = around g.C.Cost.span_of c.args.g.now.arcs c.args.costs.now c.args.a.0 c.bounds-lo.result.0 c.bounds-lo.result.1 c.args.x c.index-costs-a.result c.requires.spans c.requires.there c.bounds-lo.ensures.value c.requires.within c.index-costs-a.is in
     λ arc cost arc_is cost_is.
     let same : r.arc ≡ arc = read_once c.args.g.now.arcs c.args.a.0 r.arc arc r.arc_is arc_is in

@@ -1,4 +1,4 @@
-use Rattle.std.proofs.Common.{◌≡◌, ◌<◌, ◌≤ℤ◌, ◌<ℤ◌, length, get_or, set, ap, sym, ◌∙◌, refl, arith, rules, pos, negsuc}
+use Rattle.std.proofs.Common.{◌≡◌, ◌<◌, ◌≤ℤ◌, ◌<ℤ◌, length, get_or, set, ap, sym, subst, ◌∙◌, refl, arith, rules, pos, negsuc}
 use Rattle.std.proofs.lemmas.Int.{ints, to_z-of_z}
 use Rattle.std.proofs.lemmas.List.{get_or_read, take_at}
 use mir.Syntax.{w128}
@@ -12,7 +12,7 @@ pub lift-requires-clause-apart : goal.lift-requires-clause-apart
 lift-requires-clause-apart c =
     let fit : to_z w128 (of_z w128 c.args.d) ≡ c.args.d = to_z-of_z w128 c.args.d c.ranges.d in
     let acc : Accepts (labels_of c.args.room.now) (labels_of c.improve.new.room) c.args.v.0 c.args.d c.args.a = rw fit at (c.improve.ensures.accepts c.if-not-improve.false) in
-    let there : c.args.v.0 < length c.args.room.now.dist.items = omega (arith, c.requires.there, c.requires.room.dist, c.args.room.now.dist.ok.0) in
+    let there : c.args.v.0 < length c.args.room.now.dist.items = subst (λ z. c.args.v.0 < z) (sym c.requires.room.dist ∙ c.args.room.now.dist.ok.0) c.requires.there in
     let f : SFits w128 c.index.result.now = search rules in
     let read : to_z w128 (of_z w128 c.index.result.now) ≡ get_or c.args.room.now.dist.items c.args.v.0 (negsuc 0) =
     to_z-of_z w128 c.index.result.now f ∙ get_or_read c.args.room.now.dist.items c.args.v.0 c.index.result.now there c.index.ensures (negsuc 0) in
@@ -35,7 +35,7 @@ pub lift-requires-clause-at : goal.lift-requires-clause-at
 lift-requires-clause-at c =
     let fit : to_z w128 (of_z w128 c.args.d) ≡ c.args.d = to_z-of_z w128 c.args.d c.ranges.d in
     let acc : Accepts (labels_of c.args.room.now) (labels_of c.improve.new.room) c.args.v.0 c.args.d c.args.a = rw fit at (c.improve.ensures.accepts c.if-not-improve.false) in
-    let there : c.args.v.0 < length c.args.room.now.dist.items = omega (arith, c.requires.there, c.requires.room.dist, c.args.room.now.dist.ok.0) in
+    let there : c.args.v.0 < length c.args.room.now.dist.items = subst (λ z. c.args.v.0 < z) (sym c.requires.room.dist ∙ c.args.room.now.dist.ok.0) c.requires.there in
     let f : SFits w128 c.index.result.now = search rules in
     let read : to_z w128 (of_z w128 c.index.result.now) ≡ get_or c.args.room.now.dist.items c.args.v.0 (negsuc 0) =
     to_z-of_z w128 c.index.result.now f ∙ get_or_read c.args.room.now.dist.items c.args.v.0 c.index.result.now there c.index.ensures (negsuc 0) in
@@ -58,7 +58,7 @@ pub returns-then-known-clause-lists : goal.returns-then-known-clause-lists
 returns-then-known-clause-lists c =
     let fit : to_z w128 (of_z w128 c.args.d) ≡ c.args.d = to_z-of_z w128 c.args.d c.ranges.d in
     let acc : Accepts (labels_of c.args.room.now) (labels_of c.improve.new.room) c.args.v.0 c.args.d c.args.a = rw fit at (c.improve.ensures.accepts c.if-not-improve.false) in
-    let there : c.args.v.0 < length c.args.room.now.dist.items = omega (arith, c.requires.there, c.requires.room.dist, c.args.room.now.dist.ok.0) in
+    let there : c.args.v.0 < length c.args.room.now.dist.items = subst (λ z. c.args.v.0 < z) (sym c.requires.room.dist ∙ c.args.room.now.dist.ok.0) c.requires.there in
     let f : SFits w128 c.index.result.now = search rules in
     let read : to_z w128 (of_z w128 c.index.result.now) ≡ get_or c.args.room.now.dist.items c.args.v.0 (negsuc 0) =
     to_z-of_z w128 c.index.result.now f ∙ get_or_read c.args.room.now.dist.items c.args.v.0 c.index.result.now there c.index.ensures (negsuc 0) in
@@ -85,7 +85,7 @@ pub enlist-requires-clause-kept : goal.enlist-requires-clause-kept
 enlist-requires-clause-kept c =
     let fit : to_z w128 (of_z w128 c.args.d) ≡ c.args.d = to_z-of_z w128 c.args.d c.ranges.d in
     let acc : Accepts (labels_of c.args.room.now) (labels_of c.improve.new.room) c.args.v.0 c.args.d c.args.a = rw fit at (c.improve.ensures.accepts c.if-not-improve.false) in
-    let there : c.args.v.0 < length c.args.room.now.dist.items = omega (arith, c.requires.there, c.requires.room.dist, c.args.room.now.dist.ok.0) in
+    let there : c.args.v.0 < length c.args.room.now.dist.items = subst (λ z. c.args.v.0 < z) (sym c.requires.room.dist ∙ c.args.room.now.dist.ok.0) c.requires.there in
     let f : SFits w128 c.index.result.now = search rules in
     let read : to_z w128 (of_z w128 c.index.result.now) ≡ get_or c.args.room.now.dist.items c.args.v.0 (negsuc 0) =
     to_z-of_z w128 c.index.result.now f ∙ get_or_read c.args.room.now.dist.items c.args.v.0 c.index.result.now there c.index.ensures (negsuc 0) in
@@ -107,7 +107,7 @@ pub returns-else-known-clause-lists : goal.returns-else-known-clause-lists
 returns-else-known-clause-lists c =
     let fit : to_z w128 (of_z w128 c.args.d) ≡ c.args.d = to_z-of_z w128 c.args.d c.ranges.d in
     let acc : Accepts (labels_of c.args.room.now) (labels_of c.improve.new.room) c.args.v.0 c.args.d c.args.a = rw fit at (c.improve.ensures.accepts c.if-not-improve.false) in
-    let there : c.args.v.0 < length c.args.room.now.dist.items = omega (arith, c.requires.there, c.requires.room.dist, c.args.room.now.dist.ok.0) in
+    let there : c.args.v.0 < length c.args.room.now.dist.items = subst (λ z. c.args.v.0 < z) (sym c.requires.room.dist ∙ c.args.room.now.dist.ok.0) c.requires.there in
     let f : SFits w128 c.index.result.now = search rules in
     let read : to_z w128 (of_z w128 c.index.result.now) ≡ get_or c.args.room.now.dist.items c.args.v.0 (negsuc 0) =
     to_z-of_z w128 c.index.result.now f ∙ get_or_read c.args.room.now.dist.items c.args.v.0 c.index.result.now there c.index.ensures (negsuc 0) in

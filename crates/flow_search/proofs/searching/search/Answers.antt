@@ -1,11 +1,9 @@
-use Rattle.std.proofs.Common.{◌≡◌, ◌<◌, ◌≤◌, ◌+◌, ◌*◌, ◌^◌, ℕ, length, ap, sym, subst, ◌∙◌, refl, pos, negsuc, ◌-ℤ◌, arith, rules, slice_get, Some, ◌↔◌, true, count_by}
+use Rattle.std.proofs.Common.{Bool, false, ◌-◌, ◌≡◌, ◌<◌, ◌≤◌, ◌+◌, ◌*◌, ◌^◌, ℕ, length, ap, sym, subst, ◌∙◌, refl, pos, ◌-ℤ◌, arith, slice_get, Some, ◌↔◌, true, count_by}
 use Rattle.std.proofs.lemmas.Int.{to_z-of_z}
-use Rattle.std.proofs.lemmas.List.{get_or_read}
 use Rattle.std.proofs.lemmas.List.Sums.{count_by-le-length}
 use mir.Syntax.{w64, w128}
-use mir.Val.{to_z, of_z, SFits}
+use mir.Val.{to_z, of_z}
 use Rattle.flow_graph.specs.Condition.{ArePotentials}
-use Rattle.flow_residual.specs.declared.rooms.Room.{Room}
 use Rattle.flow_residual.specs.Flows.{MeetsAll}
 use Rattle.flow_residual.specs.Path.{IsSink, Reaches}
 use Rattle.flow_residual.specs.Rooms.{IsRoomFor}
@@ -14,8 +12,15 @@ use Rattle.flow_search.specs.Labels.{labels_of, distance, IsSearched, IsRelaxing
 use Rattle.flow_search.specs.Frontier.{IsGain}
 use Rattle.flow_search.proofs.Labelled.{taken, searched_on, more_settled}
 use Rattle.flow_search.proofs.Ways.{started, with_potentials}
-use Rattle.flow_search.proofs.Endings.{ended, end_reached, end_distance, no_sink_reached, set_is_reached}
+use Rattle.flow_search.proofs.Endings.{end_read, ended, end_reached, end_distance, no_sink_reached, set_is_reached}
 use Rattle.flow_search.proofs.searching.search.Goals as goal
+
+not_both : (t : Bool) → t ≡ true → t ≡ false → ⊥
+not_both t e f = cc
+
+-- so many are settled that one more is no more than all
+one_less : (before after all most : ℕ) → after ≡ before + 1 → after ≤ most → most ≡ all → all - after < all - before
+one_less before after all most e l k = omega (arith, e, l, k)
 
 pub loop-u-init : goal.loop-u-init
 loop-u-init g c =
@@ -55,28 +60,26 @@ pub raise-requires-clause-high : goal.raise-requires-clause-high
 raise-requires-clause-high g c =
     let there : c.in-Some.u.0 < length c.args.s.now.graph.nodes = subst (λ z. c.in-Some.u.0 < z) c.loop-u.invariant.room.set c.in-Some.ensures.there in
     let searched : IsSearched g.C.Cost.value_at c.args.step c.args.s.now (labels_of c.loop-u.room) = rw (to_z-of_z w64 c.args.step c.ranges.step) at c.loop-u.invariant.searched in
-    let room : Room = (record { set = c.take_nearest.new.room.set; dist = c.take_nearest.new.room.dist; by = c.take_nearest.new.room.by; heap = c.take_nearest.new.room.heap; place = c.take_nearest.new.room.place; aside = c.take_nearest.new.room.aside; source = c.take_nearest.new.room.source; last = c.in-Some.u }) in
-    let f : SFits w128 c.index-top.result.now = search rules in
     let top : to_z w128 (of_z w128 c.index-top.result.now) ≡ distance (labels_of c.take_nearest.new.room) c.in-Some.u.0 =
-    to_z-of_z w128 c.index-top.result.now f ∙ get_or_read c.take_nearest.new.room.dist.items c.in-Some.u.0 c.index-top.result.now (omega (arith, there, c.take_nearest.new.room.dist.ok.0, c.in-Some.ensures.room.dist, c.loop-u.invariant.room.set)) c.index-top.ensures (negsuc 0) in
-    rw top (end_distance g.C.Cost.value_at c.args.step c.args.s.now (labels_of c.loop-u.room) (record { set = c.take_nearest.new.room.set; dist = c.take_nearest.new.room.dist; by = c.take_nearest.new.room.by; heap = c.take_nearest.new.room.heap; place = c.take_nearest.new.room.place; aside = c.take_nearest.new.room.aside; source = c.take_nearest.new.room.source; last = c.in-Some.u }) c.graph.ensures.kept.network.arcs_fit c.requires.condition searched c.in-Some.ensures.taken there c.requires.potentials c.graph.ensures.kept.network.node_limit).1.high
+    end_read g.C.Cost.value_at c.args.step c.args.s.now (labels_of c.loop-u.room) (record c.take_nearest.new.room { last = c.in-Some.u }) c.graph.ensures.kept.network.arcs_fit c.requires.condition searched c.in-Some.ensures.taken there
+    c.requires.potentials c.graph.ensures.kept.network.node_limit c.index-top.result.now c.index-top.ensures in
+    rw top (end_distance g.C.Cost.value_at c.args.step c.args.s.now (labels_of c.loop-u.room) (record c.take_nearest.new.room { last = c.in-Some.u }) c.graph.ensures.kept.network.arcs_fit c.requires.condition searched c.in-Some.ensures.taken there c.requires.potentials c.graph.ensures.kept.network.node_limit).1.high
 
 pub raise-requires-clause-room : goal.raise-requires-clause-room
 raise-requires-clause-room g c =
-    subst (λ z. IsRoomFor (length z.graph.nodes) (record { set = c.take_nearest.new.room.set; dist = c.take_nearest.new.room.dist; by = c.take_nearest.new.room.by; heap = c.take_nearest.new.room.heap; place = c.take_nearest.new.room.place; aside = c.take_nearest.new.room.aside; source = c.take_nearest.new.room.source; last = c.in-Some.u })) (sym c.loop-u.invariant.state) (record { set = c.in-Some.ensures.room.set ∙ c.loop-u.invariant.room.set; dist = c.in-Some.ensures.room.dist ∙ c.loop-u.invariant.room.set; by = c.in-Some.ensures.room.by ∙ c.loop-u.invariant.room.set; heap = c.in-Some.ensures.room.heap ∙ c.loop-u.invariant.room.set; place = c.in-Some.ensures.room.place ∙ c.loop-u.invariant.room.set; aside = c.in-Some.ensures.room.aside ∙ c.loop-u.invariant.room.set })
+    subst (λ z. IsRoomFor (length z.graph.nodes) (record c.take_nearest.new.room { last = c.in-Some.u })) (sym c.loop-u.invariant.state) (record { set = c.in-Some.ensures.room.set ∙ c.loop-u.invariant.room.set; dist = c.in-Some.ensures.room.dist ∙ c.loop-u.invariant.room.set; by = c.in-Some.ensures.room.by ∙ c.loop-u.invariant.room.set; heap = c.in-Some.ensures.room.heap ∙ c.loop-u.invariant.room.set; place = c.in-Some.ensures.room.place ∙ c.loop-u.invariant.room.set; aside = c.in-Some.ensures.room.aside ∙ c.loop-u.invariant.room.set })
 
 pub returns-then-lacks-clause-path : goal.returns-then-lacks-clause-path
 returns-then-lacks-clause-path g c =
     let there : c.in-Some.u.0 < length c.args.s.now.graph.nodes = subst (λ z. c.in-Some.u.0 < z) c.loop-u.invariant.room.set c.in-Some.ensures.there in
     let searched : IsSearched g.C.Cost.value_at c.args.step c.args.s.now (labels_of c.loop-u.room) = rw (to_z-of_z w64 c.args.step c.ranges.step) at c.loop-u.invariant.searched in
-    let room : Room = (record { set = c.take_nearest.new.room.set; dist = c.take_nearest.new.room.dist; by = c.take_nearest.new.room.by; heap = c.take_nearest.new.room.heap; place = c.take_nearest.new.room.place; aside = c.take_nearest.new.room.aside; source = c.take_nearest.new.room.source; last = c.in-Some.u }) in
-    let f : SFits w128 c.index-top.result.now = search rules in
     let top : to_z w128 (of_z w128 c.index-top.result.now) ≡ distance (labels_of c.take_nearest.new.room) c.in-Some.u.0 =
-    to_z-of_z w128 c.index-top.result.now f ∙ get_or_read c.take_nearest.new.room.dist.items c.in-Some.u.0 c.index-top.result.now (omega (arith, there, c.take_nearest.new.room.dist.ok.0, c.in-Some.ensures.room.dist, c.loop-u.invariant.room.set)) c.index-top.ensures (negsuc 0) in
+    end_read g.C.Cost.value_at c.args.step c.args.s.now (labels_of c.loop-u.room) (record c.take_nearest.new.room { last = c.in-Some.u }) c.graph.ensures.kept.network.arcs_fit c.requires.condition searched c.in-Some.ensures.taken there
+    c.requires.potentials c.graph.ensures.kept.network.node_limit c.index-top.result.now c.index-top.ensures in
     let rest : c.raise.new.s ≡ with_potentials c.args.s.now c.raise.new.s.potentials = subst (λ z. c.raise.new.s ≡ with_potentials z c.raise.new.s.potentials) c.loop-u.invariant.state c.raise.ensures.rest in
     let raised = subst (λ z. (v : ℕ) → v < length z.graph.nodes → IsGain (distance (labels_of c.take_nearest.new.room) v) (to_z w128 (of_z w128 c.index-top.result.now)) (potential_at c.raise.new.s v -ℤ potential_at z v)) c.loop-u.invariant.state c.raise.ensures.raised in
     let gains = subst (λ t. (v : ℕ) → v < length c.args.s.now.graph.nodes → IsGain (distance (labels_of c.take_nearest.new.room) v) t (potential_at c.raise.new.s v -ℤ potential_at c.args.s.now v)) top raised in
-    let e = ended g.C.Cost.value_at c.args.step c.args.s.now (labels_of c.loop-u.room) (record { set = c.take_nearest.new.room.set; dist = c.take_nearest.new.room.dist; by = c.take_nearest.new.room.by; heap = c.take_nearest.new.room.heap; place = c.take_nearest.new.room.place; aside = c.take_nearest.new.room.aside; source = c.take_nearest.new.room.source; last = c.in-Some.u }) c.graph.ensures.kept.network.arcs_fit c.requires.condition searched c.in-Some.ensures.taken there c.raise.new.s rest gains in
+    let e = ended g.C.Cost.value_at c.args.step c.args.s.now (labels_of c.loop-u.room) (record c.take_nearest.new.room { last = c.in-Some.u }) c.graph.ensures.kept.network.arcs_fit c.requires.condition searched c.in-Some.ensures.taken there c.raise.new.s rest gains in
     λ _. e.path
 
 pub returns-then-lacks-clause-ends : goal.returns-then-lacks-clause-ends
@@ -94,14 +97,13 @@ pub returns-then-lacks-clause-condition : goal.returns-then-lacks-clause-conditi
 returns-then-lacks-clause-condition g c =
     let there : c.in-Some.u.0 < length c.args.s.now.graph.nodes = subst (λ z. c.in-Some.u.0 < z) c.loop-u.invariant.room.set c.in-Some.ensures.there in
     let searched : IsSearched g.C.Cost.value_at c.args.step c.args.s.now (labels_of c.loop-u.room) = rw (to_z-of_z w64 c.args.step c.ranges.step) at c.loop-u.invariant.searched in
-    let room : Room = (record { set = c.take_nearest.new.room.set; dist = c.take_nearest.new.room.dist; by = c.take_nearest.new.room.by; heap = c.take_nearest.new.room.heap; place = c.take_nearest.new.room.place; aside = c.take_nearest.new.room.aside; source = c.take_nearest.new.room.source; last = c.in-Some.u }) in
-    let f : SFits w128 c.index-top.result.now = search rules in
     let top : to_z w128 (of_z w128 c.index-top.result.now) ≡ distance (labels_of c.take_nearest.new.room) c.in-Some.u.0 =
-    to_z-of_z w128 c.index-top.result.now f ∙ get_or_read c.take_nearest.new.room.dist.items c.in-Some.u.0 c.index-top.result.now (omega (arith, there, c.take_nearest.new.room.dist.ok.0, c.in-Some.ensures.room.dist, c.loop-u.invariant.room.set)) c.index-top.ensures (negsuc 0) in
+    end_read g.C.Cost.value_at c.args.step c.args.s.now (labels_of c.loop-u.room) (record c.take_nearest.new.room { last = c.in-Some.u }) c.graph.ensures.kept.network.arcs_fit c.requires.condition searched c.in-Some.ensures.taken there
+    c.requires.potentials c.graph.ensures.kept.network.node_limit c.index-top.result.now c.index-top.ensures in
     let rest : c.raise.new.s ≡ with_potentials c.args.s.now c.raise.new.s.potentials = subst (λ z. c.raise.new.s ≡ with_potentials z c.raise.new.s.potentials) c.loop-u.invariant.state c.raise.ensures.rest in
     let raised = subst (λ z. (v : ℕ) → v < length z.graph.nodes → IsGain (distance (labels_of c.take_nearest.new.room) v) (to_z w128 (of_z w128 c.index-top.result.now)) (potential_at c.raise.new.s v -ℤ potential_at z v)) c.loop-u.invariant.state c.raise.ensures.raised in
     let gains = subst (λ t. (v : ℕ) → v < length c.args.s.now.graph.nodes → IsGain (distance (labels_of c.take_nearest.new.room) v) t (potential_at c.raise.new.s v -ℤ potential_at c.args.s.now v)) top raised in
-    let e = ended g.C.Cost.value_at c.args.step c.args.s.now (labels_of c.loop-u.room) (record { set = c.take_nearest.new.room.set; dist = c.take_nearest.new.room.dist; by = c.take_nearest.new.room.by; heap = c.take_nearest.new.room.heap; place = c.take_nearest.new.room.place; aside = c.take_nearest.new.room.aside; source = c.take_nearest.new.room.source; last = c.in-Some.u }) c.graph.ensures.kept.network.arcs_fit c.requires.condition searched c.in-Some.ensures.taken there c.raise.new.s rest gains in
+    let e = ended g.C.Cost.value_at c.args.step c.args.s.now (labels_of c.loop-u.room) (record c.take_nearest.new.room { last = c.in-Some.u }) c.graph.ensures.kept.network.arcs_fit c.requires.condition searched c.in-Some.ensures.taken there c.raise.new.s rest gains in
     e.condition
 
 pub returns-then-lacks-clause-rest : goal.returns-then-lacks-clause-rest
@@ -113,13 +115,13 @@ returns-then-lacks-clause-closed g c =
     let searched : IsSearched g.C.Cost.value_at c.args.step c.args.s.now (labels_of c.loop-u.room) = rw (to_z-of_z w64 c.args.step c.ranges.step) at c.loop-u.invariant.searched in
     let sink : IsSink c.args.s.now c.args.step c.in-Some.u.0 = subst (λ z. IsSink z c.args.step c.in-Some.u.0) c.loop-u.invariant.state (rw (to_z-of_z w64 c.args.step c.ranges.step) at (c.lacks.ensures.0 c.if-lacks.true)) in
     let way : Reaches c.args.s.now c.args.step c.args.source.0 c.in-Some.u.0 =
-    subst (λ z. Reaches c.args.s.now c.args.step z.0 c.in-Some.u.0) (c.in-Some.ensures.source ∙ c.loop-u.invariant.source) (end_reached g.C.Cost.value_at c.args.step c.args.s.now (labels_of c.loop-u.room) (record { set = c.take_nearest.new.room.set; dist = c.take_nearest.new.room.dist; by = c.take_nearest.new.room.by; heap = c.take_nearest.new.room.heap; place = c.take_nearest.new.room.place; aside = c.take_nearest.new.room.aside; source = c.take_nearest.new.room.source; last = c.in-Some.u }) c.graph.ensures.kept.network.arcs_fit c.requires.condition searched c.in-Some.ensures.taken there) in
+    subst (λ z. Reaches c.args.s.now c.args.step z.0 c.in-Some.u.0) (c.in-Some.ensures.source ∙ c.loop-u.invariant.source) (end_reached g.C.Cost.value_at c.args.step c.args.s.now (labels_of c.loop-u.room) (record c.take_nearest.new.room { last = c.in-Some.u }) c.graph.ensures.kept.network.arcs_fit c.requires.condition searched c.in-Some.ensures.taken there) in
     (λ e. absurd (cc), λ h. absurd (h c.in-Some.u.0 there sink way))
 
 pub returns-then-lacks-clause-room : goal.returns-then-lacks-clause-room
 returns-then-lacks-clause-room g c =
     let rest : c.raise.new.s ≡ with_potentials c.args.s.now c.raise.new.s.potentials = subst (λ z. c.raise.new.s ≡ with_potentials z c.raise.new.s.potentials) c.loop-u.invariant.state c.raise.ensures.rest in
-    subst (λ z. IsRoomFor (length z.graph.nodes) (record { set = c.take_nearest.new.room.set; dist = c.take_nearest.new.room.dist; by = c.take_nearest.new.room.by; heap = c.take_nearest.new.room.heap; place = c.take_nearest.new.room.place; aside = c.take_nearest.new.room.aside; source = c.take_nearest.new.room.source; last = c.in-Some.u })) (sym rest) (record { set = c.in-Some.ensures.room.set ∙ c.loop-u.invariant.room.set; dist = c.in-Some.ensures.room.dist ∙ c.loop-u.invariant.room.set; by = c.in-Some.ensures.room.by ∙ c.loop-u.invariant.room.set; heap = c.in-Some.ensures.room.heap ∙ c.loop-u.invariant.room.set; place = c.in-Some.ensures.room.place ∙ c.loop-u.invariant.room.set; aside = c.in-Some.ensures.room.aside ∙ c.loop-u.invariant.room.set })
+    subst (λ z. IsRoomFor (length z.graph.nodes) (record c.take_nearest.new.room { last = c.in-Some.u })) (sym rest) (record { set = c.in-Some.ensures.room.set ∙ c.loop-u.invariant.room.set; dist = c.in-Some.ensures.room.dist ∙ c.loop-u.invariant.room.set; by = c.in-Some.ensures.room.by ∙ c.loop-u.invariant.room.set; heap = c.in-Some.ensures.room.heap ∙ c.loop-u.invariant.room.set; place = c.in-Some.ensures.room.place ∙ c.loop-u.invariant.room.set; aside = c.in-Some.ensures.room.aside ∙ c.loop-u.invariant.room.set })
 
 pub relax-requires-clause-there : goal.relax-requires-clause-there
 relax-requires-clause-there g c =
@@ -145,7 +147,7 @@ relax-requires-clause-room g c =
 
 pub loop-u-preserved : goal.loop-u-preserved
 loop-u-preserved g c =
-    let dry : IsSink c.args.s.now (to_z w64 (of_z w64 c.args.step)) c.in-Some.u.0 → ⊥ = λ k. (let t = c.lacks.ensures.1 (subst (λ z. IsSink z (to_z w64 (of_z w64 c.args.step)) c.in-Some.u.0) (sym c.loop-u.invariant.state) k) in let f = c.if-lacks.false in absurd (cc)) in
+    let dry : IsSink c.args.s.now (to_z w64 (of_z w64 c.args.step)) c.in-Some.u.0 → ⊥ = λ k. (let t = c.lacks.ensures.1 (subst (λ z. IsSink z (to_z w64 (of_z w64 c.args.step)) c.in-Some.u.0) (sym c.loop-u.invariant.state) k) in not_both c.lacks.result t c.if-lacks.false) in
     let relaxing = subst (λ z. IsRelaxing g.C.Cost.value_at (to_z w64 (of_z w64 c.args.step)) z (labels_of c.relax.new.room) c.in-Some.u.0) c.loop-u.invariant.state c.relax.ensures.relaxing in
     let relaxed = subst (λ z. RelaxesAll g.C.Cost.value_at (to_z w64 (of_z w64 c.args.step)) z (labels_of c.relax.new.room) c.in-Some.u.0) c.loop-u.invariant.state c.relax.ensures.relaxed in
     record {
@@ -161,12 +163,12 @@ pub loop-u-smaller : goal.loop-u-smaller
 loop-u-smaller g c =
     let there : c.in-Some.u.0 < length c.args.s.now.graph.nodes = subst (λ z. c.in-Some.u.0 < z) c.loop-u.invariant.room.set c.in-Some.ensures.there in
     let sized : length c.loop-u.room.set.items ≡ length c.args.s.now.graph.nodes = c.loop-u.invariant.searched.explored.frontier.set in
-    let more = more_settled g.C.Cost.value_at c.args.step c.args.s.now (labels_of c.loop-u.room) (labels_of c.take_nearest.new.room) c.in-Some.u.0 (omega (arith, there, sized)) c.in-Some.ensures.taken in
+    let more = more_settled g.C.Cost.value_at c.args.step c.args.s.now (labels_of c.loop-u.room) (labels_of c.take_nearest.new.room) c.in-Some.u.0 (subst (λ z. c.in-Some.u.0 < z) (sym sized) there) c.in-Some.ensures.taken in
     let kept : c.relax.new.room.set.items ≡ c.take_nearest.new.room.set.items = c.relax.ensures.lowered.set in
     let now : count_by (λ b. b) c.relax.new.room.set.items ≡ count_by (λ b. b) c.loop-u.room.set.items + 1 = ap (λ z. count_by (λ b. b) z) kept ∙ more in
     let most = count_by-le-length (λ b. b) c.relax.new.room.set.items in
     let long : length c.relax.new.room.set.items ≡ length c.loop-u.s.graph.nodes = c.relax.ensures.relaxing.explored.frontier.set in
-    omega (arith, now, most, long)
+    one_less (count_by (λ b. b) c.loop-u.room.set.items) (count_by (λ b. b) c.relax.new.room.set.items) (length c.loop-u.s.graph.nodes) (length c.relax.new.room.set.items) now most long
 
 pub returns-clause-condition : goal.returns-clause-condition
 returns-clause-condition g c = subst (λ z. MeetsAll g.C.Cost.value_at c.args.step z) (sym c.loop-u.invariant.state) c.requires.condition

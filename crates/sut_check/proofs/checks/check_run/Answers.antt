@@ -3,7 +3,7 @@ use Rattle.std.specs.Prelude.{IfOk}
 use Rattle.sut_outside.specs.declared.names.FileName.{FileName}
 use Rattle.sut_outside.specs.Files.{Files}
 use Rattle.sut_outside.specs.Causes.{Rose}
-use Rattle.sut_check_status.specs.declared.statuses.CheckStatus.TheVariants.{NoMemory, Usage}
+use Rattle.sut_check.specs.declared.statuses.CheckStatus.TheVariants.{NoMemory, Usage}
 use Rattle.sut_check.specs.CheckWords.{checked_names, checked_source}
 use Rattle.sut_check.specs.Statuses.{status_for}
 use Rattle.sut_check.specs.Claims.{claim_in}

@@ -2,7 +2,7 @@ use Rattle.std.proofs.Common.{◌≡◌, ◌∙◌, ℕ, List, Some, Contains, I
 use Rattle.sut_outside.specs.declared.names.FileName.{FileName}
 use Rattle.sut_outside.specs.Files.{Files, Told}
 use Rattle.sut_outside.specs.Causes.{Rose}
-use Rattle.sut_check_status.specs.declared.statuses.CheckStatus.{CheckStatus}
+use Rattle.sut_check.specs.declared.statuses.CheckStatus.{CheckStatus}
 use Rattle.sut_check.specs.CheckWords.{checked_names}
 use Rattle.sut_check.specs.Findings.{check_text}
 use Rattle.sut_check.specs.CheckEnds.{AnswersCheck, AreLines, IfReadFault, Prints}

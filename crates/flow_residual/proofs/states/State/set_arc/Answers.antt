@@ -13,7 +13,7 @@ gap-requires-clause-before g c =
 pub gap-requires-clause-after : goal.gap-requires-clause-after
 gap-requires-clause-after g c =
     let f : SFits w64 c.index-before.result.now = search rules in
-    let fy : SFits w64 c.nearest-after.result = search rules in
+    let fy : SFits w64 c.nearest-after.result = record { sfits = c.nearest-after.type_inv } in
     let e = rw (to_z-of_z w64 c.args.lo c.ranges.lo, to_z-of_z w64 c.args.hi c.ranges.hi, to_z-of_z w64 c.index-before.result.now f) at c.nearest-after.ensures in
     let b = bounds_from_span (g.C.Cost.value_at c.args.cost) (g.C.Cost.span_of c.args.cost) c.args.lo c.args.hi (g.met.C.Cost.lawful c.args.cost) c.requires.low c.requires.high c.requires.ordered in
     rw (to_z-of_z w64 c.nearest-after.result fy) (nearest_small c.args.lo c.args.hi c.index-before.result.now c.nearest-after.result b e)
@@ -21,8 +21,8 @@ gap-requires-clause-after g c =
 pub carry-requires-clause-x : goal.carry-requires-clause-x
 carry-requires-clause-x g c =
     let f : SFits w64 c.index-before.result.now = search rules in
-    let fy : SFits w64 c.nearest-after.result = search rules in
-    let fd : SFits w64 c.gap.result = search rules in
+    let fy : SFits w64 c.nearest-after.result = record { sfits = c.nearest-after.type_inv } in
+    let fd : SFits w64 c.gap.result = record { sfits = c.gap.type_inv } in
     let e = rw (to_z-of_z w64 c.args.lo c.ranges.lo, to_z-of_z w64 c.args.hi c.ranges.hi, to_z-of_z w64 c.index-before.result.now f) at c.nearest-after.ensures in
     let b = bounds_from_span (g.C.Cost.value_at c.args.cost) (g.C.Cost.span_of c.args.cost) c.args.lo c.args.hi (g.met.C.Cost.lawful c.args.cost) c.requires.low c.requires.high c.requires.ordered in
     rw (to_z-of_z w64 c.gap.result fd) (difference_small c.index-before.result.now c.nearest-after.result c.gap.result
@@ -41,8 +41,8 @@ set_bounds-requires-clause-bounds g c =
 pub invariant_of-self : goal.invariant_of-self
 invariant_of-self g c =
     let f : SFits w64 c.index-before.result.now = search rules in
-    let fy : SFits w64 c.nearest-after.result = search rules in
-    let fd : SFits w64 c.gap.result = search rules in
+    let fy : SFits w64 c.nearest-after.result = record { sfits = c.nearest-after.type_inv } in
+    let fd : SFits w64 c.gap.result = record { sfits = c.gap.type_inv } in
     let e = rw (to_z-of_z w64 c.args.lo c.ranges.lo, to_z-of_z w64 c.args.hi c.ranges.hi, to_z-of_z w64 c.index-before.result.now f) at c.nearest-after.ensures in
     let b = bounds_from_span (g.C.Cost.value_at c.args.cost) (g.C.Cost.span_of c.args.cost) c.args.lo c.args.hi (g.met.C.Cost.lawful c.args.cost) c.requires.low c.requires.high c.requires.ordered in
     let by : to_z w64 (of_z w64 c.gap.result) ≡ to_z w64 (of_z w64 c.nearest-after.result) -ℤ c.index-before.result.now = to_z-of_z w64 c.gap.result fd ∙ (rw (to_z-of_z w64 c.index-before.result.now f) at c.gap.ensures) in

@@ -13,8 +13,8 @@ gap-requires-clause-before g c =
 pub carry-requires-clause-x : goal.carry-requires-clause-x
 carry-requires-clause-x g c =
     let f : SFits w64 c.index-before.result.now = search rules in
-    let fy : SFits w64 c.nearest-after.result = search rules in
-    let fd : SFits w64 c.gap.result = search rules in
+    let fy : SFits w64 c.nearest-after.result = record { sfits = c.nearest-after.type_inv } in
+    let fd : SFits w64 c.gap.result = record { sfits = c.gap.type_inv } in
     let fl : SFits w64 c.bounds-lo.result.0 = search rules in
     let fh : SFits w64 c.bounds-lo.result.1 = search rules in
     let e = rw (to_z-of_z w64 c.bounds-lo.result.0 fl, to_z-of_z w64 c.bounds-lo.result.1 fh, to_z-of_z w64 c.args.x c.ranges.x) at c.nearest-after.ensures in
@@ -29,8 +29,8 @@ carry-requires-clause-small g c = excesses_small g.N.PartialEq.eq g.A.PartialEq.
 pub invariant_of-self : goal.invariant_of-self
 invariant_of-self g c =
     let f : SFits w64 c.index-before.result.now = search rules in
-    let fy : SFits w64 c.nearest-after.result = search rules in
-    let fd : SFits w64 c.gap.result = search rules in
+    let fy : SFits w64 c.nearest-after.result = record { sfits = c.nearest-after.type_inv } in
+    let fd : SFits w64 c.gap.result = record { sfits = c.gap.type_inv } in
     let fl : SFits w64 c.bounds-lo.result.0 = search rules in
     let fh : SFits w64 c.bounds-lo.result.1 = search rules in
     let e = rw (to_z-of_z w64 c.bounds-lo.result.0 fl, to_z-of_z w64 c.bounds-lo.result.1 fh, to_z-of_z w64 c.args.x c.ranges.x) at c.nearest-after.ensures in

@@ -1,4 +1,0 @@
-pub mod CheckCodes
-pub mod ReasonTexts
-pub mod CheckFaultWords
-pub mod CheckLines
