@@ -1,4 +1,5 @@
 pub mod Cuts
+pub mod Finer
 pub mod Refutes
 pub mod Shown
 pub mod Sums

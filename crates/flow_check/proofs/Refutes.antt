@@ -12,7 +12,7 @@ use Rattle.flow_graph.specs.Network.{IsArcAmong}
 use Rattle.flow_check.proofs.Sums.{carried, carried-circulation}
 
 -- 1 for a member, 0 for another
-abbrev weight_of : Bool → ℤ
+abbrev pub weight_of : Bool → ℤ
 weight_of b = if b then pos 1 else pos 0
 
 times_one : (x : ℤ) → pos 1 *ℤ x ≡ x
@@ -22,7 +22,7 @@ times_minus_one : (x : ℤ) → negsuc 0 *ℤ x ≡ neg_ℤ x
 times_minus_one x = *ℤ_comm (negsuc 0) x ∙ mul-neg x (pos 1) ∙ ap neg_ℤ (mul-one x)
 
 -- one arc: what it must bring in, less what it can take out, is at most what it carries
-one_arc : (head tail : Bool) (lo hi x : ℤ) → lo ≤ℤ x → x ≤ℤ hi →
+pub one_arc : (head tail : Bool) (lo hi x : ℤ) → lo ≤ℤ x → x ≤ℤ hi →
     ((if head && not tail then lo else pos 0) -ℤ (if tail && not head then hi else pos 0)) ≤ℤ ((weight_of head -ℤ weight_of tail) *ℤ x)
 one_arc true true lo hi x l h = rw (zero-*ℤ x) (omega (arith, ints))
 one_arc true false lo hi x l h = rw (times_one x) (omega (arith, ints))

@@ -1,5 +1,5 @@
 //! Whole numbers, fields and labels as texts. A call that appends answers `NoMemory` where memory runs out, and then
-//! leaves `out` as it was, but for `put_words`.
+//! leaves `out` as it was; `put_words` may leave some of its words there too.
 #![tactic(auto)]
 
 ghost use Rattle.std.specs.Prelude.{◌≡◌, ◌++◌, ◌∷◌, [], if◌then◌else◌, is_ok, take, length, OnOk};

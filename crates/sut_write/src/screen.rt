@@ -1,7 +1,7 @@
 //! The lines that a run prints.
 
 ghost use Rattle.std.specs.Prelude.{◌≡◌, ◌<◌, ◌*◌, ◌^◌, ◌++◌, ◌∷◌, [], IfOk, OnOk, codes, decimal};
-ghost use Rattle.sut_text.specs.Text.{printed_text, words_text};
+ghost use Rattle.sut_text.specs.Text.{printed_text, words_text, Keeps};
 ghost use Rattle.sut_text.specs.Fields.{field_bytes};
 ghost use Rattle.sut_tables.specs.Costs.{IsAdmissible};
 ghost use Rattle.sut_tables.specs.Costs as costs;
@@ -112,7 +112,8 @@ fn put_balanced(
     t: &Table,
 ) -> Result<(), NoMemory>
     requires { IsAdmissible p.now t.now }
-    ensures { OnOk result (out.new.items ≡ out.old.items ++ printed_text ((place_words place ++ codes "balanced" ∷ decimal (costs.cost p.now t.now) ∷ []) ∷ [])) }
+    ensures done { OnOk result (out.new.items ≡ out.old.items ++ printed_text ((place_words place ++ codes "balanced" ∷ decimal (costs.cost p.now t.now) ∷ []) ∷ [])) }
+    ensures kept { Keeps out.old.items out.new.items }
 {
     let balanced = Field::Text(b"balanced");
     match place {
@@ -122,7 +123,8 @@ fn put_balanced(
 }
 
 fn put_infeasible(out: &mut Vec<u8>, place: Option<u64>) -> Result<(), NoMemory>
-    ensures { OnOk result (out.new.items ≡ out.old.items ++ printed_text ((place_words place ++ codes "infeasible" ∷ []) ∷ [])) }
+    ensures done { OnOk result (out.new.items ≡ out.old.items ++ printed_text ((place_words place ++ codes "infeasible" ∷ []) ∷ [])) }
+    ensures kept { Keeps out.old.items out.new.items }
 {
     let infeasible = Field::Text(b"infeasible");
     match place {
@@ -133,7 +135,7 @@ fn put_infeasible(out: &mut Vec<u8>, place: Option<u64>) -> Result<(), NoMemory>
 
 /// Appends the line that `edit` prints of a rebalance: `line K`, K being the line of the edit, or `end`, and then `balanced C`
 /// with the cost of the table, or `infeasible`. A table in the answer is admissible. After want of memory a part of it may
-/// stand in `out`.
+/// stand in `out`, behind what stood there.
 pub fn put_rebalance(
     out: &mut Vec<u8>,
     place: Option<u64>,
@@ -141,7 +143,8 @@ pub fn put_rebalance(
     a: &Answer,
 ) -> Result<(), NoMemory>
     requires { HasAdmissibleTable p.now a.now }
-    ensures { OnOk result (out.new.items ≡ out.old.items ++ rebalance_text place p.now a.now) }
+    ensures done { OnOk result (out.new.items ≡ out.old.items ++ rebalance_text place p.now a.now) }
+    ensures kept { Keeps out.old.items out.new.items }
 {
     match a {
         Answer::Balanced(t, _) => put_balanced(out, place, p, t),
