@@ -66,7 +66,8 @@ fn read_settings_file<F: Shelf>(alloc: Global, shelf: &mut F) -> Result<Settings
     }
 }
 
-fn read_classes_file<F: Shelf>(alloc: Global, shelf: &mut F) -> Result<Classes, InputFault>
+/// Reads `classes.csv` alone. No file changes.
+pub fn read_classes_file<F: Shelf>(alloc: Global, shelf: &mut F) -> Result<Classes, InputFault>
     ensures kept { Told (F.files shelf.old) (F.files shelf.new) SameFiles }
     ensures ok { IfOk result (λ classes. IfSome (F.files shelf.old) (λ files. GivesOk classes_in files classes)) }
     ensures err { IfErr result (λ fault. IfSome (F.files shelf.old) (λ files. Refuses classes_in files fault)) }
