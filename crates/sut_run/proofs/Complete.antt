@@ -3,7 +3,7 @@ use Rattle.std.proofs.Common.{◌≡◌, ◌⊎◌, List, None, Result, Ok, Err,
 use Rattle.std.specs.Prelude.{IsOk}
 use Rattle.sut_outside.specs.Files.{Files}
 use Rattle.sut_status.specs.declared.statuses.Status.{Status}
-use Rattle.sut_status.specs.declared.statuses.Status.TheVariants.{Balanced, Generated, NoMemory, Usage, Infeasible, BadSettings, BadClasses, BadSource, BadEdits, ReadFault, WriteFault, Missing, SinkFault, TooLong}
+use Rattle.sut_status.specs.declared.statuses.Status.TheVariants.{Balanced, Generated, Migrated, Published, Ranged, Series, Shared, NoMemory, Usage, Infeasible, BadSettings, BadClasses, BadSource, BadEdits, BadTable, NotAdmissible, BadAsks, BadDismiss, TooManyPairs, BadYear, ReadFault, WriteFault, Missing, SinkFault, TooLong}
 use Rattle.sut_review.specs.Seats.{SeatFacts}
 use Rattle.sut_run.specs.declared.commands.Command.{Command}
 use Rattle.sut_run.specs.Inputs.{input_of}
@@ -22,6 +22,11 @@ pub complete_from :
     ¬ R → ¬ K → (status ≡ NoMemory) ⊎ IsDone status
 complete_from seats c files R K Balanced says read write sink given no_r no_k = inr tt
 complete_from seats c files R K Generated says read write sink given no_r no_k = inr tt
+complete_from seats c files R K Migrated says read write sink given no_r no_k = inr tt
+complete_from seats c files R K Published says read write sink given no_r no_k = inr tt
+complete_from seats c files R K Ranged says read write sink given no_r no_k = inr tt
+complete_from seats c files R K Series says read write sink given no_r no_k = inr tt
+complete_from seats c files R K Shared says read write sink given no_r no_k = inr tt
 complete_from seats c files R K Infeasible says read write sink given no_r no_k = inr tt
 complete_from seats c files R K NoMemory says read write sink given no_r no_k = inl refl
 complete_from seats c files R K Usage says read write sink given no_r no_k = absurd (not_given _ _ says given)
@@ -29,6 +34,12 @@ complete_from seats c files R K (BadSettings f) says read write sink given no_r 
 complete_from seats c files R K (BadClasses f) says read write sink given no_r no_k = absurd (not_given _ _ says given)
 complete_from seats c files R K (BadSource f) says read write sink given no_r no_k = absurd (not_given _ _ says given)
 complete_from seats c files R K (BadEdits f) says read write sink given no_r no_k = absurd (not_given _ _ says given)
+complete_from seats c files R K (BadTable e) says read write sink given no_r no_k = absurd (not_given _ _ says given)
+complete_from seats c files R K (NotAdmissible e) says read write sink given no_r no_k = absurd (not_given _ _ says given)
+complete_from seats c files R K (BadAsks e) says read write sink given no_r no_k = absurd (not_given _ _ says given)
+complete_from seats c files R K (BadDismiss e) says read write sink given no_r no_k = absurd (not_given _ _ says given)
+complete_from seats c files R K (TooManyPairs n) says read write sink given no_r no_k = absurd (not_given _ _ says given)
+complete_from seats c files R K (BadYear k e) says read write sink given no_r no_k = absurd (not_given _ _ says given)
 complete_from seats c files R K (ReadFault n) says read write sink given no_r no_k = absurd (no_r read)
 complete_from seats c files R K (WriteFault n) says read write sink given no_r no_k = absurd (no_r write)
 complete_from seats c files R K (Missing n) says read write sink given no_r no_k = absurd (not_given _ _ says given)

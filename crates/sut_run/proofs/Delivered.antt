@@ -18,11 +18,11 @@ use Rattle.sut_cert.specs.declared.answers.Answer.{Answer}
 use Rattle.sut_cert.specs.declared.answers.Answer.TheVariants as answer
 use Rattle.sut_review.specs.Seats.{SeatFacts}
 use Rattle.sut_input.specs.Inputs.{problem_in, problem_names}
-use Rattle.sut_input.specs.Reads.{FailsAmong, Refuses}
+use Rattle.sut_input.specs.Reads.{FailsAmong, Refuses, Step}
 use Rattle.sut_input.specs.declared.faults.InputFault.{InputFault}
 use Rattle.sut_input.specs.declared.faults.InputFault.TheVariants as fault
 use Rattle.sut_status.specs.declared.statuses.Status.{Status}
-use Rattle.sut_status.specs.declared.statuses.Status.TheVariants.{Balanced, Generated, NoMemory, Usage, Infeasible, WriteFault, SinkFault}
+use Rattle.sut_status.specs.declared.statuses.Status.TheVariants.{Balanced, Generated, Migrated, Published, Ranged, Series, Shared, NoMemory, Usage, Infeasible, WriteFault, SinkFault}
 use Rattle.sut_run.specs.declared.commands.Command.{Command}
 use Rattle.sut_run.specs.declared.commands.Command.TheVariants.{Balance}
 use Rattle.sut_run.specs.Commands.{answer_names, read_names, written_names}
@@ -59,40 +59,45 @@ stops-no-sink names stopped s e = subst (StopsWriting names) e s
 
 -- ---- a refused input
 
-given-for : (seats : List SeatFacts) (failed : Option FileName) (files : Files) (r : Result (SettingsFacts × ProblemFacts) InputFault) → problem_in SourceCsv failed files ≡ r → input_of seats Balance failed files ≡ and_then (fault_as refused r) for_balance
-given-for seats failed files r e = ap (λ w. and_then (fault_as refused w) for_balance) e
+given-for : {A : Type 0} (seats : List SeatFacts) (c : Command) (step : Step A) (next : A → Result Given Status) → ((failed : Option FileName) (files : Files) → input_of seats c failed files ≡ and_then (fault_as refused (step failed files)) next)
+    → (failed : Option FileName) (files : Files) (r : Result A InputFault) → step failed files ≡ r → input_of seats c failed files ≡ and_then (fault_as refused r) next
+given-for seats c step next is failed files r e = is failed files ∙ ap (λ w. and_then (fault_as refused w) next) e
 
-pub refused-answers : (seats : List SeatFacts) (held : Option Files) (f : InputFault) → IfSome held (λ files. Refuses (problem_in SourceCsv) files f) → IfSome held (λ files. AnswersInput seats Balance files (refused f))
-refused-answers seats None f h = tt
-refused-answers seats (Some files) fault.NoMemory h = tt
-refused-answers seats (Some files) (fault.ReadFault n) h = given-for seats (Some n) files (Err (fault.ReadFault n)) h
-refused-answers seats (Some files) (fault.Missing n) h = given-for seats None files (Err (fault.Missing n)) h
-refused-answers seats (Some files) (fault.TooLong n) h = given-for seats None files (Err (fault.TooLong n)) h
-refused-answers seats (Some files) (fault.BadSettings e) h = given-for seats None files (Err (fault.BadSettings e)) h
-refused-answers seats (Some files) (fault.BadClasses e) h = given-for seats None files (Err (fault.BadClasses e)) h
-refused-answers seats (Some files) (fault.BadSource e) h = given-for seats None files (Err (fault.BadSource e)) h
+pub refused-answers : {A : Type 0} (seats : List SeatFacts) (c : Command) (step : Step A) (next : A → Result Given Status) → ((failed : Option FileName) (files : Files) → input_of seats c failed files ≡ and_then (fault_as refused (step failed files)) next)
+    → (held : Option Files) (f : InputFault) → IfSome held (λ files. Refuses step files f) → IfSome held (λ files. AnswersInput seats c files (refused f))
+refused-answers seats c step next is None f h = tt
+refused-answers seats c step next is (Some files) fault.NoMemory h = tt
+refused-answers seats c step next is (Some files) (fault.ReadFault n) h = given-for seats c step next is (Some n) files (Err (fault.ReadFault n)) h
+refused-answers seats c step next is (Some files) (fault.Missing n) h = given-for seats c step next is None files (Err (fault.Missing n)) h
+refused-answers seats c step next is (Some files) (fault.TooLong n) h = given-for seats c step next is None files (Err (fault.TooLong n)) h
+refused-answers seats c step next is (Some files) (fault.BadSettings e) h = given-for seats c step next is None files (Err (fault.BadSettings e)) h
+refused-answers seats c step next is (Some files) (fault.BadClasses e) h = given-for seats c step next is None files (Err (fault.BadClasses e)) h
+refused-answers seats c step next is (Some files) (fault.BadSource e) h = given-for seats c step next is None files (Err (fault.BadSource e)) h
 
-refused-stands : (seats : List SeatFacts) (f : InputFault) (sent : Option (List ℕ)) (old new : Files) → SameFiles old new → Stands seats Balance (refused f) sent sent old new
-refused-stands seats fault.NoMemory sent old new same = inl (same, sent-same sent)
-refused-stands seats (fault.ReadFault n) sent old new same = (same, sent-same sent)
-refused-stands seats (fault.Missing n) sent old new same = (same, sent-same sent)
-refused-stands seats (fault.TooLong n) sent old new same = (same, sent-same sent)
-refused-stands seats (fault.BadSettings e) sent old new same = (same, sent-same sent)
-refused-stands seats (fault.BadClasses e) sent old new same = (same, sent-same sent)
-refused-stands seats (fault.BadSource e) sent old new same = (same, sent-same sent)
+pub balance-answers : (seats : List SeatFacts) (held : Option Files) (f : InputFault) → IfSome held (λ files. Refuses (problem_in SourceCsv) files f) → IfSome held (λ files. AnswersInput seats Balance files (refused f))
+balance-answers seats held f h = refused-answers seats Balance (problem_in SourceCsv) for_balance (λ failed files. refl) held f h
 
-pub refused-told : (seats : List SeatFacts) (f : InputFault) (sent : Option (List ℕ)) (old new : Option Files) → Told old new SameFiles → Told old new (Stands seats Balance (refused f) sent sent)
-refused-told seats f sent old new kept = told_as SameFiles (Stands seats Balance (refused f) sent sent) (refused-stands seats f sent) old new kept
+refused-stands : (seats : List SeatFacts) (c : Command) (f : InputFault) (sent : Option (List ℕ)) (old new : Files) → SameFiles old new → Stands seats c (refused f) sent sent old new
+refused-stands seats c fault.NoMemory sent old new same = inl (same, sent-same sent)
+refused-stands seats c (fault.ReadFault n) sent old new same = (same, sent-same sent)
+refused-stands seats c (fault.Missing n) sent old new same = (same, sent-same sent)
+refused-stands seats c (fault.TooLong n) sent old new same = (same, sent-same sent)
+refused-stands seats c (fault.BadSettings e) sent old new same = (same, sent-same sent)
+refused-stands seats c (fault.BadClasses e) sent old new same = (same, sent-same sent)
+refused-stands seats c (fault.BadSource e) sent old new same = (same, sent-same sent)
 
-pub refused-reads : (f : InputFault) (before now : ℕ) (last : Option FileName) → FailsAmong (problem_names SourceCsv) before now last f
-    → IfReadFault (refused f) (λ failed. Rose before now × (last ≡ Some failed) × Contains (read_names Balance) failed)
-refused-reads fault.NoMemory before now last h = tt
-refused-reads (fault.ReadFault n) before now last h = h
-refused-reads (fault.Missing n) before now last h = tt
-refused-reads (fault.TooLong n) before now last h = tt
-refused-reads (fault.BadSettings e) before now last h = tt
-refused-reads (fault.BadClasses e) before now last h = tt
-refused-reads (fault.BadSource e) before now last h = tt
+pub refused-told : (seats : List SeatFacts) (c : Command) (f : InputFault) (sent : Option (List ℕ)) (old new : Option Files) → Told old new SameFiles → Told old new (Stands seats c (refused f) sent sent)
+refused-told seats c f sent old new kept = told_as SameFiles (Stands seats c (refused f) sent sent) (refused-stands seats c f sent) old new kept
+
+pub refused-reads : (names : List FileName) (f : InputFault) (before now : ℕ) (last : Option FileName) → FailsAmong names before now last f
+    → IfReadFault (refused f) (λ failed. Rose before now × (last ≡ Some failed) × Contains names failed)
+refused-reads names fault.NoMemory before now last h = tt
+refused-reads names (fault.ReadFault n) before now last h = h
+refused-reads names (fault.Missing n) before now last h = tt
+refused-reads names (fault.TooLong n) before now last h = tt
+refused-reads names (fault.BadSettings e) before now last h = tt
+refused-reads names (fault.BadClasses e) before now last h = tt
+refused-reads names (fault.BadSource e) before now last h = tt
 
 pub refused-writes : (f : InputFault) (P : FileName → Type 0) → IfWriteFault (refused f) P
 refused-writes fault.NoMemory P = tt
@@ -107,6 +112,7 @@ refused-writes (fault.BadSource e) P = tt
 abbrev pub IsRefusal : Status → Type 0
 IsRefusal Balanced = ⊥
 IsRefusal Generated = ⊥
+IsRefusal Migrated = ⊥
 IsRefusal Infeasible = ⊥
 IsRefusal SinkFault = ⊥
 IsRefusal Usage = ⊥
@@ -134,6 +140,11 @@ pub done-stands : (seats : List SeatFacts) (c : Command) (input : Given) (done :
     → input_of seats c None old ≡ Ok input → Delivered d.texts d.lines {T = Unit {0}} (Ok tt) now new before after → Stands seats c done before after old new
 done-stands seats c input Balanced d gives is before after old now new same read w = right seats c input Balanced d gives Balanced before after old now new same read (refl, w.0, w.1)
 done-stands seats c input Generated d gives is before after old now new same read w = right seats c input Generated d gives Generated before after old now new same read (refl, w.0, w.1)
+done-stands seats c input Migrated d gives is before after old now new same read w = right seats c input Migrated d gives Migrated before after old now new same read (refl, w.0, w.1)
+done-stands seats c input Published d gives is before after old now new same read w = right seats c input Published d gives Published before after old now new same read (refl, w.0, w.1)
+done-stands seats c input Ranged d gives is before after old now new same read w = right seats c input Ranged d gives Ranged before after old now new same read (refl, w.0, w.1)
+done-stands seats c input Series d gives is before after old now new same read w = right seats c input Series d gives Series before after old now new same read (refl, w.0, w.1)
+done-stands seats c input Shared d gives is before after old now new same read w = right seats c input Shared d gives Shared before after old now new same read (refl, w.0, w.1)
 done-stands seats c input Infeasible d gives is before after old now new same read w = right seats c input Infeasible d gives Infeasible before after old now new same read (refl, w.0, w.1)
 done-stands seats c input _ d gives is before after old now new same read w = absurd is
 
@@ -156,7 +167,7 @@ gives-answer seats p done texts lines x = record {
 }
 
 pub given : (seats : List SeatFacts) (s : SettingsFacts) (p : ProblemFacts) (old : Files) → problem_in SourceCsv None old ≡ Ok (s, p) → input_of seats Balance None old ≡ Ok (to_balance s p)
-given seats s p old e = given-for seats None old (Ok (s, p)) e
+given seats s p old e = given-for seats Balance (problem_in SourceCsv) for_balance (λ failed files. refl) None old (Ok (s, p)) e
 
 pub given-told : (seats : List SeatFacts) (s : SettingsFacts) (p : ProblemFacts) (held : Option Files) → IfSome held (λ files. problem_in SourceCsv None files ≡ Ok (s, p)) → IfSome held (λ files. input_of seats Balance None files ≡ Ok (to_balance s p))
 given-told seats s p None h = tt
@@ -171,6 +182,11 @@ pub done-answers : (seats : List SeatFacts) (c : Command) (input : Given) (done 
 done-answers seats c input done is None h = tt
 done-answers seats c input Balanced is (Some files) h = ok-of seats c input files h
 done-answers seats c input Generated is (Some files) h = ok-of seats c input files h
+done-answers seats c input Migrated is (Some files) h = ok-of seats c input files h
+done-answers seats c input Published is (Some files) h = ok-of seats c input files h
+done-answers seats c input Ranged is (Some files) h = ok-of seats c input files h
+done-answers seats c input Series is (Some files) h = ok-of seats c input files h
+done-answers seats c input Shared is (Some files) h = ok-of seats c input files h
 done-answers seats c input Infeasible is (Some files) h = ok-of seats c input files h
 done-answers seats c input _ is (Some files) h = absurd is
 
@@ -188,15 +204,30 @@ pub answer-done : (a : Answer) (done : Status) → done ≡ status_of a → IsDo
 answer-done (answer.Balanced t ps) done ends = subst IsDone (sym ends) tt
 answer-done (answer.Infeasible set) done ends = subst IsDone (sym ends) tt
 
+-- no answer to a problem migrates classes
+pub answer-no-migration : (a : Answer) (done : Status) → done ≡ status_of a → done ≡ Migrated → ⊥
+answer-no-migration (answer.Balanced t ps) done ends e = cc
+answer-no-migration (answer.Infeasible set) done ends e = cc
+
 pub done-reads : (done : Status) → IsDone done → (P : FileName → Type 0) → IfReadFault done P
 done-reads Balanced is P = tt
 done-reads Generated is P = tt
+done-reads Migrated is P = tt
+done-reads Published is P = tt
+done-reads Ranged is P = tt
+done-reads Series is P = tt
+done-reads Shared is P = tt
 done-reads Infeasible is P = tt
 done-reads _ is P = absurd is
 
 pub done-writes : (done : Status) → IsDone done → (P : FileName → Type 0) → IfWriteFault done P
 done-writes Balanced is P = tt
 done-writes Generated is P = tt
+done-writes Migrated is P = tt
+done-writes Published is P = tt
+done-writes Ranged is P = tt
+done-writes Series is P = tt
+done-writes Shared is P = tt
 done-writes Infeasible is P = tt
 done-writes _ is P = absurd is
 
@@ -245,6 +276,7 @@ failed-writes c names within _ stops before between now last later cause = absur
 abbrev pub IsStop : Status → Type 0
 IsStop Balanced = ⊥
 IsStop Infeasible = ⊥
+IsStop Migrated = ⊥
 IsStop Usage = ⊥
 IsStop _ = Unit {0}
 

@@ -6,5 +6,7 @@ pub mod Delivered
 pub mod Headlined
 pub mod EditDelivered
 pub mod EditHeadlined
+pub mod ClassesLength
+pub mod Migrated
 pub mod Complete
 pub mod Named

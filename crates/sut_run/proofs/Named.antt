@@ -5,7 +5,7 @@ use Rattle.sut_outside.specs.declared.names.FileName.{FileName}
 use Rattle.sut_outside.specs.Files.{Files, Told}
 use Rattle.sut_outside.specs.Causes.{Rose}
 use Rattle.sut_status.specs.declared.statuses.Status.{Status}
-use Rattle.sut_status.specs.declared.statuses.Status.TheVariants.{Balanced, Generated, NoMemory, Usage, Infeasible, BadSettings, BadClasses, BadSource, BadEdits, ReadFault, WriteFault, Missing, SinkFault, TooLong}
+use Rattle.sut_status.specs.declared.statuses.Status.TheVariants.{Balanced, Generated, Migrated, Published, Ranged, Series, Shared, NoMemory, Usage, Infeasible, BadSettings, BadClasses, BadSource, BadEdits, BadTable, NotAdmissible, BadAsks, BadDismiss, TooManyPairs, BadYear, ReadFault, WriteFault, Missing, SinkFault, TooLong}
 use Rattle.sut_review.specs.Seats.{SeatFacts}
 use Rattle.sut_run.specs.declared.commands.Command.{Command}
 use Rattle.sut_run.specs.Commands.{read_names, written_names}
@@ -40,6 +40,11 @@ write-names o c e s before now last h = subst (λ x. IfWriteFault s (λ failed. 
 if-read : (s : Status) (R : Type 0) (P Q : FileName → Type 0) → IfReadFault s (λ n. R × P n × Q n) → IfReadFault s (λ n. R)
 if-read Balanced R P Q h = tt
 if-read Generated R P Q h = tt
+if-read Migrated R P Q h = tt
+if-read Published R P Q h = tt
+if-read Ranged R P Q h = tt
+if-read Series R P Q h = tt
+if-read Shared R P Q h = tt
 if-read NoMemory R P Q h = tt
 if-read Usage R P Q h = tt
 if-read Infeasible R P Q h = tt
@@ -47,6 +52,12 @@ if-read (BadSettings e) R P Q h = tt
 if-read (BadClasses e) R P Q h = tt
 if-read (BadSource e) R P Q h = tt
 if-read (BadEdits e) R P Q h = tt
+if-read (BadTable e) R P Q h = tt
+if-read (NotAdmissible e) R P Q h = tt
+if-read (BadAsks e) R P Q h = tt
+if-read (BadDismiss e) R P Q h = tt
+if-read (TooManyPairs n) R P Q h = tt
+if-read (BadYear k e) R P Q h = tt
 if-read (ReadFault n) R P Q h = h.0
 if-read (WriteFault n) R P Q h = tt
 if-read (Missing n) R P Q h = tt
@@ -56,6 +67,11 @@ if-read (TooLong n) R P Q h = tt
 if-write : (s : Status) (R : Type 0) (P Q : FileName → Type 0) → IfWriteFault s (λ n. R × P n × Q n) → IfWriteFault s (λ n. R)
 if-write Balanced R P Q h = tt
 if-write Generated R P Q h = tt
+if-write Migrated R P Q h = tt
+if-write Published R P Q h = tt
+if-write Ranged R P Q h = tt
+if-write Series R P Q h = tt
+if-write Shared R P Q h = tt
 if-write NoMemory R P Q h = tt
 if-write Usage R P Q h = tt
 if-write Infeasible R P Q h = tt
@@ -63,6 +79,12 @@ if-write (BadSettings e) R P Q h = tt
 if-write (BadClasses e) R P Q h = tt
 if-write (BadSource e) R P Q h = tt
 if-write (BadEdits e) R P Q h = tt
+if-write (BadTable e) R P Q h = tt
+if-write (NotAdmissible e) R P Q h = tt
+if-write (BadAsks e) R P Q h = tt
+if-write (BadDismiss e) R P Q h = tt
+if-write (TooManyPairs n) R P Q h = tt
+if-write (BadYear k e) R P Q h = tt
 if-write (ReadFault n) R P Q h = tt
 if-write (WriteFault n) R P Q h = h.0
 if-write (Missing n) R P Q h = tt

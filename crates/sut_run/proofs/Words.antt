@@ -4,7 +4,7 @@ use Rattle.std.specs.Prelude.{codes, if◌then◌else◌}
 use Rattle.std.specs.Str.{bytes_eq}
 use Rattle.sut_generate.specs.Generator.{is_size}
 use Rattle.sut_run.specs.declared.commands.Command.{Command}
-use Rattle.sut_run.specs.declared.commands.Command.TheVariants.{Balance, Edit, Generate}
+use Rattle.sut_run.specs.declared.commands.Command.TheVariants.{Balance, Edit, Migrate, Generate}
 use Rattle.sut_run.specs.Commands.{command_of, generate_of, natural}
 
 -- a list of one
@@ -29,16 +29,18 @@ abbrev pub has_size : Option Command → Bool
 has_size None = true
 has_size (Some Balance) = true
 has_size (Some Edit) = true
+has_size (Some Migrate) = true
 has_size (Some (Generate seed products industries)) = is_size seed products industries
 
 allowed : (x y z : ℕ) (b : Bool) → is_size x y z ≡ b → has_size (if b then Some (Generate x y z) else None) ≡ true
 allowed x y z true is = is
 allowed x y z false is = refl
 
-named-sized : (b c : Bool) → has_size (if b then Some Balance else if c then Some Edit else None) ≡ true
-named-sized true c = refl
-named-sized false true = refl
-named-sized false false = refl
+named-sized : (b c d : Bool) → has_size (if b then Some Balance else if c then Some Edit else if d then Some Migrate else None) ≡ true
+named-sized true c d = refl
+named-sized false true d = refl
+named-sized false false true = refl
+named-sized false false false = refl
 
 sized-sized : (b : Bool) (x y z : Option ℕ) → has_size (if b then generate_of x y z else None) ≡ true
 sized-sized false x y z = refl
@@ -49,7 +51,7 @@ sized-sized true None y z = refl
 
 pub words-sized : (words : List (List ℕ)) → has_size (command_of words) ≡ true
 words-sized [] = refl
-words-sized (a ∷ []) = named-sized (bytes_eq a (codes "balance")) (bytes_eq a (codes "edit"))
+words-sized (a ∷ []) = named-sized (bytes_eq a (codes "balance")) (bytes_eq a (codes "edit")) (bytes_eq a (codes "migrate"))
 words-sized (a ∷ b ∷ []) = refl
 words-sized (a ∷ b ∷ c ∷ []) = refl
 words-sized (a ∷ b ∷ c ∷ d ∷ []) = sized-sized (bytes_eq a (codes "generate")) (natural b) (natural c) (natural d)

@@ -2,14 +2,14 @@
 use Rattle.std.specs.Prelude.{ℕ, ℤ, pos, int_lt, unsigned_abs, List, [], ◌∷◌, ◌++◌, Option, Some, None, Result, Ok, Err, codes, if◌then◌else◌}
 use Rattle.std.specs.Str.{bytes_eq}
 use Rattle.sut_outside.specs.declared.names.FileName.{FileName}
-use Rattle.sut_outside.specs.declared.names.FileName.TheVariants.{SourceCsv, BalancedCsv, SupplyCsv, UseCsv, AccountsCsv, CertificateCsv, ReportJson, ReviewCsv, EditedCsv, TrailCsv, MadeSettingsToml, MadeClassesCsv, MadeSourceCsv}
+use Rattle.sut_outside.specs.declared.names.FileName.TheVariants.{ClassesCsv, SourceCsv, BalancedCsv, SupplyCsv, UseCsv, AccountsCsv, CertificateCsv, ReportJson, ReviewCsv, EditedCsv, TrailCsv, MadeSettingsToml, MadeClassesCsv, MadeSourceCsv, Classes2Csv}
 use Rattle.sut_text.specs.Number.{whole_of}
 use Rattle.sut_text.specs.declared.numbers.NumberFault.{NumberFault}
 use Rattle.sut_generate.specs.Generator.{is_size}
 use Rattle.sut_input.specs.Inputs.{problem_names}
 use Rattle.sut_input.specs.EditInputs.{edit_names}
 use Rattle.sut_run.specs.declared.commands.Command.{Command}
-use Rattle.sut_run.specs.declared.commands.Command.TheVariants.{Balance, Edit, Generate}
+use Rattle.sut_run.specs.declared.commands.Command.TheVariants.{Balance, Edit, Migrate, Generate}
 
 -- a number, where it is not below 0
 abbrev pub natural_of : Result ℤ NumberFault → Option ℕ
@@ -25,6 +25,7 @@ abbrev pub named : List ℕ → Option Command
 named word =
     if bytes_eq word (codes "balance") then Some Balance
     else if bytes_eq word (codes "edit") then Some Edit
+    else if bytes_eq word (codes "migrate") then Some Migrate
     else None
 
 -- a made year of this seed and size, where the generator makes one
@@ -50,6 +51,7 @@ command_of _ = None
 abbrev pub read_names : Command → List FileName
 read_names Balance = problem_names SourceCsv
 read_names Edit = edit_names
+read_names Migrate = ClassesCsv ∷ []
 read_names (Generate seed products industries) = []
 
 -- the files of an answer
@@ -60,4 +62,5 @@ answer_names = BalancedCsv ∷ SupplyCsv ∷ UseCsv ∷ AccountsCsv ∷ Certific
 abbrev pub written_names : Command → List FileName
 written_names Balance = answer_names
 written_names Edit = EditedCsv ∷ TrailCsv ∷ answer_names
+written_names Migrate = Classes2Csv ∷ []
 written_names (Generate seed products industries) = MadeSettingsToml ∷ MadeClassesCsv ∷ MadeSourceCsv ∷ []

@@ -1,12 +1,16 @@
 -- What a run delivers for its input: the texts that are written, in order, and the lines that are printed then.
-use Rattle.std.specs.Prelude.{◌≡◌, ◌≤◌, ℕ, List, [], ◌∷◌, ◌++◌, length, Ok}
+use Rattle.std.specs.Prelude.{◌≡◌, ◌≤◌, ◌+◌, ℕ, List, [], ◌∷◌, ◌++◌, codes, decimal, length, Ok}
 use Rattle.sut_outside.specs.declared.names.FileName.{FileName}
-use Rattle.sut_outside.specs.declared.names.FileName.TheVariants.{BalancedCsv, SupplyCsv, UseCsv, AccountsCsv, CertificateCsv, ReportJson, ReviewCsv, EditedCsv, TrailCsv, MadeSettingsToml, MadeClassesCsv, MadeSourceCsv}
+use Rattle.sut_outside.specs.declared.names.FileName.TheVariants.{BalancedCsv, SupplyCsv, UseCsv, AccountsCsv, CertificateCsv, ReportJson, ReviewCsv, EditedCsv, TrailCsv, MadeSettingsToml, MadeClassesCsv, MadeSourceCsv, Classes2Csv}
 use Rattle.sut_outside.specs.declared.shelf.TheConstants.{FILE_LIMIT}
 use Rattle.sut_settings.specs.SettingsFacts.{SettingsFacts}
 use Rattle.sut_settings.specs.SettingsFile.{settings_of}
 use Rattle.sut_classes.specs.ClassLists.{ClassLists}
 use Rattle.sut_classes.specs.ClassFile.{classes_of}
+use Rattle.sut_classes.specs.ClassText.{classes_text}
+use Rattle.sut_classes.specs.Places.{count_of}
+use Rattle.sut_classes.specs.declared.ids.Axis.TheVariants as axis
+use Rattle.sut_text.specs.Text.{printed_text}
 use Rattle.sut_source.specs.SourceFile.{source_of}
 use Rattle.sut_source.specs.SourceText.{source_text}
 use Rattle.sut_tables.specs.ProblemFacts.{ProblemFacts}
@@ -35,7 +39,7 @@ use Rattle.sut_editing.specs.Moments.{Moments}
 use Rattle.sut_editing.specs.Events.{Event, IsAnswer}
 use Rattle.sut_editing.specs.Answered.{AreEventsOf, EndsWith}
 use Rattle.sut_editing.specs.Shown.{rebalances_text, seats_after, seats_shown, trail_text}
-use Rattle.sut_run.specs.Inputs.{Given, to_balance, to_edit, to_generate}
+use Rattle.sut_run.specs.Inputs.{Given, to_balance, to_edit, to_migrate, to_generate}
 
 pub record Delivery : Type 0 where
   pub texts : List (FileName × List ℕ)
@@ -117,6 +121,21 @@ pub record IsMadeYear (seed products industries : ℕ) (d : Delivery) : Type 0 w
   pub written : d.texts ≡ made_files seed products industries
   pub prints : PrintsMade seed products industries d.lines
 
+-- ---- classes in format 2
+
+-- how many codes there are on all axes
+abbrev pub code_count : ClassLists → ℕ
+code_count cs =
+    ((count_of cs axis.Product + count_of cs axis.Industry) + (count_of cs axis.Final + count_of cs axis.Item))
+    + (count_of cs axis.Margin + count_of cs axis.Tax) + (count_of cs axis.ProductGroup + count_of cs axis.IndustryGroup)
+
+abbrev pub migrated_text : ClassLists → List ℕ
+migrated_text cs = printed_text ((codes "migrated" ∷ decimal (code_count cs) ∷ []) ∷ [])
+
+-- the classes in format 2, and how many codes there are
+abbrev pub migration : ClassLists → Delivery
+migration cs = record { texts = (Classes2Csv, classes_text cs) ∷ []; lines = migrated_text cs }
+
 -- ---- what a run may deliver for an input, and the answer with which it ends then
 
 -- a right answer to a problem is delivered
@@ -139,6 +158,7 @@ pub record GivesEdits (seats : List SeatFacts) (s : SettingsFacts) (m : Moments)
 abbrev pub Gives : List SeatFacts → Given → Status → Delivery → Type 0
 Gives seats (to_balance s p) done d = GivesAnswer seats p done d
 Gives seats (to_edit s m) done d = GivesEdits seats s m done d
+Gives seats (to_migrate cs) done d = (done ≡ status.Migrated) × (d ≡ migration cs)
 Gives seats (to_generate seed products industries) done d = (done ≡ status.Generated) × IsMadeYear seed products industries d
 
 -- ---- what is written for the separate check reads back, and is no longer than a read gives
@@ -154,6 +174,11 @@ pub record SpellsCertificate (p : ProblemFacts) (c : Certificate) : Type 0 where
 abbrev pub ReadsBack : ProblemFacts → Answer → Type 0
 ReadsBack p (answer.Balanced t ps) = SpellsTable p t × SpellsCertificate p (certificate.Potentials ps)
 ReadsBack p (answer.Infeasible set) = SpellsCertificate p (certificate.Cut set)
+
+-- in format 2 the same classes
+pub record SpellsClasses (cs : ClassLists) : Type 0 where
+  pub short : length (classes_text cs) ≤ FILE_LIMIT
+  pub read : classes_of (classes_text cs) ≡ Ok (record cs { format = 2 })
 
 pub record SpellsSource (s : SettingsFacts) (p : ProblemFacts) : Type 0 where
   pub short : length (source_text s p) ≤ FILE_LIMIT

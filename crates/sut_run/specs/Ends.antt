@@ -5,7 +5,7 @@ use Rattle.sut_outside.specs.Files.{Files, SameFiles, Told}
 use Rattle.sut_outside.specs.Deliveries.{WrittenAll, StoppedAt}
 use Rattle.sut_outside.specs.Sent.{AppendsPart}
 use Rattle.sut_status.specs.declared.statuses.Status.{Status}
-use Rattle.sut_status.specs.declared.statuses.Status.TheVariants.{Balanced, Generated, NoMemory, Usage, Infeasible, BadSettings, BadClasses, BadSource, BadEdits, ReadFault, WriteFault, Missing, SinkFault, TooLong}
+use Rattle.sut_status.specs.declared.statuses.Status.TheVariants.{Balanced, Generated, Migrated, Published, Ranged, Series, Shared, NoMemory, Usage, Infeasible, BadSettings, BadClasses, BadSource, BadEdits, BadTable, NotAdmissible, BadAsks, BadDismiss, TooManyPairs, BadYear, ReadFault, WriteFault, Missing, SinkFault, TooLong}
 use Rattle.sut_run.specs.declared.commands.Command.{Command}
 use Rattle.sut_run.specs.Inputs.{input_of}
 use Rattle.sut_review.specs.Seats.{SeatFacts}
@@ -16,6 +16,11 @@ use Rattle.sut_run.specs.Steps.{SameSent, Sends}
 abbrev pub IsDone : Status → Type 0
 IsDone Balanced = ⊤
 IsDone Generated = ⊤
+IsDone Migrated = ⊤
+IsDone Published = ⊤
+IsDone Ranged = ⊤
+IsDone Series = ⊤
+IsDone Shared = ⊤
 IsDone Infeasible = ⊤
 IsDone _ = ⊥
 
@@ -29,12 +34,23 @@ AnswersInput seats c files (WriteFault name) = IsOk (input_of seats c None files
 AnswersInput seats c files SinkFault = IsOk (input_of seats c None files)
 AnswersInput seats c files Balanced = IsOk (input_of seats c None files)
 AnswersInput seats c files Generated = IsOk (input_of seats c None files)
+AnswersInput seats c files Migrated = IsOk (input_of seats c None files)
+AnswersInput seats c files Published = IsOk (input_of seats c None files)
+AnswersInput seats c files Ranged = IsOk (input_of seats c None files)
+AnswersInput seats c files Series = IsOk (input_of seats c None files)
+AnswersInput seats c files Shared = IsOk (input_of seats c None files)
 AnswersInput seats c files Infeasible = IsOk (input_of seats c None files)
 AnswersInput seats c files Usage = input_of seats c None files ≡ Err Usage
 AnswersInput seats c files (BadSettings e) = input_of seats c None files ≡ Err (BadSettings e)
 AnswersInput seats c files (BadClasses e) = input_of seats c None files ≡ Err (BadClasses e)
 AnswersInput seats c files (BadSource e) = input_of seats c None files ≡ Err (BadSource e)
 AnswersInput seats c files (BadEdits e) = input_of seats c None files ≡ Err (BadEdits e)
+AnswersInput seats c files (BadTable e) = input_of seats c None files ≡ Err (BadTable e)
+AnswersInput seats c files (NotAdmissible e) = input_of seats c None files ≡ Err (NotAdmissible e)
+AnswersInput seats c files (BadAsks e) = input_of seats c None files ≡ Err (BadAsks e)
+AnswersInput seats c files (BadDismiss e) = input_of seats c None files ≡ Err (BadDismiss e)
+AnswersInput seats c files (TooManyPairs n) = input_of seats c None files ≡ Err (TooManyPairs n)
+AnswersInput seats c files (BadYear k e) = input_of seats c None files ≡ Err (BadYear k e)
 AnswersInput seats c files (Missing name) = input_of seats c None files ≡ Err (Missing name)
 AnswersInput seats c files (TooLong name) = input_of seats c None files ≡ Err (TooLong name)
 
@@ -64,5 +80,10 @@ Stands seats c (WriteFault name) before after old new = DeliversRight seats c (W
 Stands seats c SinkFault before after old new = DeliversRight seats c SinkFault old new before after
 Stands seats c Balanced before after old new = DeliversRight seats c Balanced old new before after
 Stands seats c Generated before after old new = DeliversRight seats c Generated old new before after
+Stands seats c Migrated before after old new = DeliversRight seats c Migrated old new before after
+Stands seats c Published before after old new = DeliversRight seats c Published old new before after
+Stands seats c Ranged before after old new = DeliversRight seats c Ranged old new before after
+Stands seats c Series before after old new = DeliversRight seats c Series old new before after
+Stands seats c Shared before after old new = DeliversRight seats c Shared old new before after
 Stands seats c Infeasible before after old new = DeliversRight seats c Infeasible old new before after
 Stands seats c refused before after old new = LeavesAll old new before after

@@ -1,10 +1,12 @@
 -- What the written files say by themselves, read back by the readers' own definitions.
 use Rattle.std.specs.Prelude.{◌≡◌, ◌≤◌, ℕ, ℤ, List, length, None, Ok, Result, IsSomeAnd, ⊤}
 use Rattle.sut_outside.specs.declared.names.FileName.{FileName}
-use Rattle.sut_outside.specs.declared.names.FileName.TheVariants.{SourceCsv, EditedCsv, BalancedCsv, CertificateCsv, MadeSourceCsv}
+use Rattle.sut_outside.specs.declared.names.FileName.TheVariants.{SourceCsv, EditedCsv, BalancedCsv, CertificateCsv, MadeSourceCsv, Classes2Csv}
 use Rattle.sut_outside.specs.declared.shelf.TheConstants.{FILE_LIMIT}
 use Rattle.sut_outside.specs.Files.{Files}
 use Rattle.sut_settings.specs.SettingsFacts.{SettingsFacts}
+use Rattle.sut_classes.specs.ClassLists.{ClassLists}
+use Rattle.sut_classes.specs.ClassFile.{classes_of}
 use Rattle.sut_measures.specs.declared.accounts.Account.{Account}
 use Rattle.sut_tables.specs.ProblemFacts.{ProblemFacts}
 use Rattle.sut_tables.specs.TableFacts.{TableFacts}
@@ -14,9 +16,9 @@ use Rattle.sut_cert.specs.Certificates.{ShowsLeast, Contradicts}
 use Rattle.sut_cert.specs.CertificateFile.{certificate_of}
 use Rattle.sut_cert.specs.declared.certificates.Certificate.TheVariants as certificate
 use Rattle.sut_readback.specs.BalancedFile.{balanced_of}
-use Rattle.sut_input.specs.Inputs.{problem_in}
+use Rattle.sut_input.specs.Inputs.{classes_in, problem_in}
 use Rattle.sut_run.specs.declared.commands.Command.{Command}
-use Rattle.sut_run.specs.declared.commands.Command.TheVariants.{Balance, Edit, Generate}
+use Rattle.sut_run.specs.declared.commands.Command.TheVariants.{Balance, Edit, Migrate, Generate}
 use Rattle.sut_review.specs.Seats.{SeatFacts}
 use Rattle.sut_editing.specs.Moments.{Moments}
 use Rattle.sut_run.specs.Inputs.{input_of, to_balance, to_edit}
@@ -25,19 +27,29 @@ use Rattle.sut_run.specs.Inputs.{input_of, to_balance, to_edit}
 abbrev pub IsLastProblem : List SeatFacts → Command → Files → SettingsFacts → ProblemFacts → Type 0
 IsLastProblem seats Balance old s p = input_of seats Balance None old ≡ Ok (to_balance s p)
 IsLastProblem seats Edit old s p = (m : Moments) × (input_of seats Edit None old ≡ Ok (to_edit s m)) × (p ≡ m.last)
+IsLastProblem seats Migrate old s p = ⊥
 IsLastProblem seats (Generate seed products industries) old s p = ⊥
 
 -- the name under which the source of that problem stands at exit
 abbrev pub source_name : Command → FileName
 source_name Balance = SourceCsv
 source_name Edit = EditedCsv
+source_name Migrate = SourceCsv
 source_name (Generate seed products industries) = MadeSourceCsv
 
 -- the commands whose answers are balanced or infeasible, and written for the separate check
 abbrev pub IsChecked : Command → Type 0
 IsChecked Balance = ⊤
 IsChecked Edit = ⊤
+IsChecked Migrate = ⊥
 IsChecked (Generate seed products industries) = ⊥
+
+-- the commands whose problem may have no table
+abbrev pub MayBeInfeasible : Command → Type 0
+MayBeInfeasible Balance = ⊤
+MayBeInfeasible Edit = ⊤
+MayBeInfeasible Migrate = ⊥
+MayBeInfeasible (Generate seed products industries) = ⊥
 
 -- a text stands under the name, is no longer than a read gives, and spells this
 abbrev pub Spells : {A F : Type 0} → Files → FileName → (List ℕ → Result A F) → A → Type 0
@@ -73,3 +85,9 @@ pub record Headline (seats : List SeatFacts) (c : Command) (W : ProblemFacts →
   pub given : IsLastProblem seats c old settings problem
   pub spelled : problem_in (source_name c) None new ≡ Ok (settings, problem)
   pub written : W problem new
+
+-- the written classes are those of the file at entry, in format 2
+pub record WritesClasses (old new : Files) : Type 0 where
+  pub classes : ClassLists
+  pub given : classes_in None old ≡ Ok classes
+  pub spelled : Spells new Classes2Csv classes_of (record classes { format = 2 })

@@ -5,8 +5,9 @@ use Rattle.sut_outside.specs.declared.names.FileName.TheVariants.{SourceCsv}
 use Rattle.sut_outside.specs.Files.{Files}
 use Rattle.sut_records.specs.FirstFault.{and_then, fault_as}
 use Rattle.sut_settings.specs.SettingsFacts.{SettingsFacts}
+use Rattle.sut_classes.specs.ClassLists.{ClassLists}
 use Rattle.sut_tables.specs.ProblemFacts.{ProblemFacts}
-use Rattle.sut_input.specs.Inputs.{problem_in}
+use Rattle.sut_input.specs.Inputs.{classes_in, problem_in}
 use Rattle.sut_input.specs.declared.faults.InputFault.{InputFault}
 use Rattle.sut_input.specs.declared.faults.InputFault.TheVariants as fault
 use Rattle.sut_input.specs.EditInputs.{edit_input_in}
@@ -20,12 +21,13 @@ use Rattle.sut_editing.specs.declared.faults.EditingFault.TheVariants.{Refused, 
 use Rattle.sut_status.specs.declared.statuses.Status.{Status}
 use Rattle.sut_status.specs.declared.statuses.Status.TheVariants as status
 use Rattle.sut_run.specs.declared.commands.Command.{Command}
-use Rattle.sut_run.specs.declared.commands.Command.TheVariants.{Balance, Edit, Generate}
+use Rattle.sut_run.specs.declared.commands.Command.TheVariants.{Balance, Edit, Migrate, Generate}
 
 -- what the files spell for a command
 pub data Given : Type 0 where
   to_balance : SettingsFacts → ProblemFacts → Given
   to_edit : SettingsFacts → Moments → Given
+  to_migrate : ClassLists → Given
   to_generate : ℕ → ℕ → ℕ → Given
 
 -- a refused input, as a status
@@ -40,6 +42,9 @@ refused fault.NoMemory = status.NoMemory
 
 abbrev pub for_balance : SettingsFacts × ProblemFacts → Result Given Status
 for_balance given = Ok (to_balance given.0 given.1)
+
+abbrev pub for_migrate : ClassLists → Result Given Status
+for_migrate cs = Ok (to_migrate cs)
 
 abbrev pub edits_refused : EditInputFault → Status
 edits_refused (edits.Input e) = refused e
@@ -60,4 +65,5 @@ for_edit labels given =
 abbrev pub input_of : List SeatFacts → Command → Option FileName → Files → Result Given Status
 input_of seats Balance failed files = and_then (fault_as refused (problem_in SourceCsv failed files)) for_balance
 input_of seats Edit failed files = and_then (fault_as edits_refused (edit_input_in failed files)) (for_edit (standing_labels seats))
+input_of seats Migrate failed files = and_then (fault_as refused (classes_in failed files)) for_migrate
 input_of seats (Generate seed products industries) failed files = Ok (to_generate seed products industries)

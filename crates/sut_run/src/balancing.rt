@@ -101,6 +101,7 @@ pub(crate) fn run_balance<F: Shelf, K: Sink>(
     ensures sink_fault { result ≡ Status.SinkFault → Rose (K.faults out.old) (K.faults out.new) }
     ensures balanced { result ≡ Status.Balanced → Told (F.files shelf.old) (F.files shelf.new) (Headline (map (λ b. new_seat (name b) (rule b)) reviewers.items) Command.Balance WritesLeast) }
     ensures infeasible { result ≡ Status.Infeasible → Told (F.files shelf.old) (F.files shelf.new) (Headline (map (λ b. new_seat (name b) (rule b)) reviewers.items) Command.Balance WritesCut) }
+    ensures migrated { (result ≡ Status.Migrated) → ⊥ }
     ensures used { (result ≡ Status.Usage) → ⊥ }
 {
     let input = match read_problem(alloc, shelf, FileName::SourceCsv) {

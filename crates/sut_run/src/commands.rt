@@ -13,6 +13,8 @@ pub enum Command {
     Balance,
     /// Balances the source of a year under edits of its rows.
     Edit,
+    /// Writes the classes in format 2.
+    Migrate,
     /// Makes a year from a seed, with so many products and industries, and balances it.
     Generate(u32, u32, u32),
 }
@@ -24,6 +26,8 @@ fn command_of_word(word: &str) -> Option<Command>
         Some(Command::Balance)
     } else if word.as_bytes() == b"edit".as_slice() {
         Some(Command::Edit)
+    } else if word.as_bytes() == b"migrate".as_slice() {
+        Some(Command::Migrate)
     } else {
         None
     }

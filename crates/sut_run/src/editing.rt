@@ -178,6 +178,7 @@ pub(crate) fn run_edit<F: Shelf, K: Sink>(
     ensures sink_fault { result ≡ Status.SinkFault → Rose (K.faults out.old) (K.faults out.new) }
     ensures balanced { result ≡ Status.Balanced → Told (F.files shelf.old) (F.files shelf.new) (Headline (map (λ b. new_seat (name b) (rule b)) reviewers.items) Command.Edit WritesLeast) }
     ensures infeasible { result ≡ Status.Infeasible → Told (F.files shelf.old) (F.files shelf.new) (Headline (map (λ b. new_seat (name b) (rule b)) reviewers.items) Command.Edit WritesCut) }
+    ensures migrated { (result ≡ Status.Migrated) → ⊥ }
     ensures used { (result ≡ Status.Usage) → ⊥ }
 {
     let given = match read_edit_input(alloc, shelf) {

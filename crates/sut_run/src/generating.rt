@@ -250,6 +250,7 @@ pub(crate) fn run_generate<F: Shelf, K: Sink>(
     ensures sink_fault { result ≡ Status.SinkFault → Rose (K.faults out.old) (K.faults out.new) }
     ensures balanced { (result ≡ Status.Balanced) → ⊥ }
     ensures infeasible { (result ≡ Status.Infeasible) → ⊥ }
+    ensures migrated { (result ≡ Status.Migrated) → ⊥ }
     ensures used { (result ≡ Status.Usage) → ⊥ }
 {
     let made = match prepare_made(alloc, seed, products, industries) {

@@ -5,6 +5,7 @@ pub mod balancing;
 pub mod commands;
 mod editing;
 mod generating;
+mod migrating;
 mod outputs;
 mod reviewing;
 pub mod runs;

@@ -7,13 +7,14 @@ ghost use Rattle.sut_review.specs.Seats.{new_seat};
 ghost use Rattle.sut_run.specs.Commands.{command_of, read_names, written_names};
 ghost use Rattle.sut_run.specs.Inputs.{input_of};
 ghost use Rattle.sut_run.specs.Ends.{AnswersInput, IsDone, LeavesAll, Stands};
-ghost use Rattle.sut_run.specs.Headlines.{Headline, IsChecked, WritesCut, WritesLeast};
+ghost use Rattle.sut_run.specs.Headlines.{Headline, IsChecked, MayBeInfeasible, WritesClasses, WritesCut, WritesLeast};
 ghost use Rattle.sut_run.specs.Steps.{IfReadFault, IfWriteFault};
 
 use crate::balancing::run_balance;
 use crate::commands::{Command, command_named};
 use crate::editing::run_edit;
 use crate::generating::run_generate;
+use crate::migrating::run_migrate;
 use std::alloc::Global;
 use sut_outside::{Shelf, Sink};
 use sut_review::Reviewer;
@@ -21,7 +22,7 @@ use sut_status::Status;
 
 /// Runs the command that the words name, over a shelf of files and a sink of printed lines, with the reviewers that the
 /// caller hands in, none of which has marked a row yet. The words are accepted exactly where they are `balance`, or `edit`, or
-/// `generate SEED PRODUCTS INDUSTRIES` with three shortest decimals of a size that the generator makes.
+/// `migrate`, or `generate SEED PRODUCTS INDUSTRIES` with three shortest decimals of a size that the generator makes.
 ///
 /// `balance` reads `settings.toml`, `classes.csv` and `source.csv`, each once, each parsed before the next is read. Where some
 /// table of whole numbers meets all identities and bounds, it writes one with the least weighted sum of penalties
@@ -39,6 +40,9 @@ use sut_status::Status;
 ///
 /// `generate` writes `made_settings.toml`, `made_classes.csv` and `made_source.csv`, balances them in memory, and prints the
 /// number of rows and the least cost. It shows nothing to reviewers.
+///
+/// `migrate` reads `classes.csv` alone, in either format, writes the same classes in format 2 (`classes2.csv`), and prints
+/// how many codes there are on all axes. It shows nothing to reviewers.
 ///
 /// All texts are made before the first write; the first failure ends the run.
 pub fn run<F: Shelf, K: Sink>(
@@ -74,12 +78,20 @@ pub fn run<F: Shelf, K: Sink>(
     // certificate shows it.
     ensures balanced { IfSome (command_of (map string_bytes words.now)) (λ c. result ≡ Status.Balanced → IsChecked c × Told (F.files shelf.old) (F.files shelf.new) (Headline (map (λ b. new_seat (name b) (rule b)) reviewers.items) c WritesLeast)) }
 
-    // Infeasible: the written set contradicts, and no table exists.
-    ensures infeasible { IfSome (command_of (map string_bytes words.now)) (λ c. result ≡ Status.Infeasible → IsChecked c × Told (F.files shelf.old) (F.files shelf.new) (Headline (map (λ b. new_seat (name b) (rule b)) reviewers.items) c WritesCut)) }
+    // Infeasible: only of a command whose problem may be, and where its answer is written for the separate check, the written
+    // set contradicts, and no table exists.
+    ensures infeasible { IfSome (command_of (map string_bytes words.now)) (λ c. result ≡ Status.Infeasible → MayBeInfeasible c × (IsChecked c → Told (F.files shelf.old) (F.files shelf.new) (Headline (map (λ b. new_seat (name b) (rule b)) reviewers.items) c WritesCut))) }
+
+    // Migrated: the written classes read back as those at entry, in format 2.
+    ensures migrated { result ≡ Status.Migrated → Told (F.files shelf.old) (F.files shelf.new) WritesClasses }
 {
     match command_named(words) {
         Some(Command::Balance) => run_balance(alloc, shelf, out, reviewers),
         Some(Command::Edit) => run_edit(alloc, shelf, out, reviewers),
+        Some(Command::Migrate) => {
+            drop(reviewers);
+            run_migrate(alloc, shelf, out)
+        }
         Some(Command::Generate(seed, products, industries)) => {
             drop(reviewers);
             run_generate(alloc, seed, products, industries, shelf, out)

@@ -18,6 +18,8 @@ mod lines;
 #[cfg(test)]
 mod made;
 #[cfg(test)]
+mod migrated;
+#[cfg(test)]
 mod odd_value;
 #[cfg(test)]
 mod refused;

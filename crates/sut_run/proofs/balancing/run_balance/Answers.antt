@@ -13,22 +13,22 @@ use Rattle.sut_run.specs.Inputs.{input_of, to_balance}
 use Rattle.sut_run.specs.Outputs.{texts_in}
 use Rattle.sut_run.specs.Steps.{Delivered, IfReadFault, IfWriteFault}
 use Rattle.sut_run.specs.Ends.{AnswersInput, IsDone, Stands}
-use Rattle.sut_run.proofs.Delivered.{IsRefusal, IsStop, answer-done, done-answers, done-reads, done-stands, done-writes, failed-answers, failed-reads, failed-stands, failed-writes, given-told, gives-answer, is-refusal, is-stop, prepared-names, refused-answers, refused-reads, refused-told, refused-writes, sent-same, whatever}
+use Rattle.sut_run.proofs.Delivered.{IsRefusal, IsStop, answer-done, answer-no-migration, balance-answers, done-answers, done-reads, done-stands, done-writes, failed-answers, failed-reads, failed-stands, failed-writes, given-told, gives-answer, is-refusal, is-stop, prepared-names, refused-reads, refused-told, refused-writes, sent-same, whatever}
 use Rattle.sut_run.proofs.Headlined.{balanced-told, infeasible-told}
 use Rattle.sut_run.proofs.Lists.{names_in}
 use Rattle.sut_run.proofs.balancing.run_balance.Goals as goal
 
 pub returns-in-Err-clause-input : goal.returns-in-Err-clause-input
 returns-in-Err-clause-input g c =
-    let P : Status → Type 0 = λ s. IfSome (g.F.Shelf.files c.args.shelf.now) (λ (files : Files). AnswersInput (map (λ b. new_seat ((g.dyn-1.0.entry b.vtable).1.name b.value) ((g.dyn-1.0.entry b.vtable).1.rule b.value)) c.args.reviewers.items) Balance files s) in subst P (sym c.refused.ensures) (refused-answers (map (λ b. new_seat ((g.dyn-1.0.entry b.vtable).1.name b.value) ((g.dyn-1.0.entry b.vtable).1.rule b.value)) c.args.reviewers.items) (g.F.Shelf.files c.args.shelf.now) c.in-Err.fault c.in-Err.ensures.err)
+    let P : Status → Type 0 = λ s. IfSome (g.F.Shelf.files c.args.shelf.now) (λ (files : Files). AnswersInput (map (λ b. new_seat ((g.dyn-1.0.entry b.vtable).1.name b.value) ((g.dyn-1.0.entry b.vtable).1.rule b.value)) c.args.reviewers.items) Balance files s) in subst P (sym c.refused.ensures) (balance-answers (map (λ b. new_seat ((g.dyn-1.0.entry b.vtable).1.name b.value) ((g.dyn-1.0.entry b.vtable).1.rule b.value)) c.args.reviewers.items) (g.F.Shelf.files c.args.shelf.now) c.in-Err.fault c.in-Err.ensures.err)
 
 pub returns-in-Err-clause-stands : goal.returns-in-Err-clause-stands
 returns-in-Err-clause-stands g c =
-    let P : Status → Type 0 = λ s. Told (g.F.Shelf.files c.args.shelf.now) (g.F.Shelf.files c.read_problem.new.shelf) (Stands (map (λ b. new_seat ((g.dyn-1.0.entry b.vtable).1.name b.value) ((g.dyn-1.0.entry b.vtable).1.rule b.value)) c.args.reviewers.items) Balance s (g.K.Sink.sent c.args.out.now) (g.K.Sink.sent c.args.out.now)) in subst P (sym c.refused.ensures) (refused-told (map (λ b. new_seat ((g.dyn-1.0.entry b.vtable).1.name b.value) ((g.dyn-1.0.entry b.vtable).1.rule b.value)) c.args.reviewers.items) c.in-Err.fault (g.K.Sink.sent c.args.out.now) _ _ c.read_problem.ensures.kept)
+    let P : Status → Type 0 = λ s. Told (g.F.Shelf.files c.args.shelf.now) (g.F.Shelf.files c.read_problem.new.shelf) (Stands (map (λ b. new_seat ((g.dyn-1.0.entry b.vtable).1.name b.value) ((g.dyn-1.0.entry b.vtable).1.rule b.value)) c.args.reviewers.items) Balance s (g.K.Sink.sent c.args.out.now) (g.K.Sink.sent c.args.out.now)) in subst P (sym c.refused.ensures) (refused-told (map (λ b. new_seat ((g.dyn-1.0.entry b.vtable).1.name b.value) ((g.dyn-1.0.entry b.vtable).1.rule b.value)) c.args.reviewers.items) Balance c.in-Err.fault (g.K.Sink.sent c.args.out.now) _ _ c.read_problem.ensures.kept)
 
 pub returns-in-Err-clause-read_fault : goal.returns-in-Err-clause-read_fault
 returns-in-Err-clause-read_fault g c =
-    let P : Status → Type 0 = λ s. IfReadFault s (λ (failed : FileName). Rose (g.F.Shelf.faults c.args.shelf.now) (g.F.Shelf.faults c.read_problem.new.shelf) × (g.F.Shelf.last_failed c.read_problem.new.shelf ≡ Some failed) × Contains (read_names Balance) failed) in subst P (sym c.refused.ensures) (refused-reads c.in-Err.fault _ _ _ c.in-Err.ensures.cause)
+    let P : Status → Type 0 = λ s. IfReadFault s (λ (failed : FileName). Rose (g.F.Shelf.faults c.args.shelf.now) (g.F.Shelf.faults c.read_problem.new.shelf) × (g.F.Shelf.last_failed c.read_problem.new.shelf ≡ Some failed) × Contains (read_names Balance) failed) in subst P (sym c.refused.ensures) (refused-reads (read_names Balance) c.in-Err.fault _ _ _ c.in-Err.ensures.cause)
 
 pub returns-in-Err-clause-write_fault : goal.returns-in-Err-clause-write_fault
 returns-in-Err-clause-write_fault g c =
@@ -44,6 +44,10 @@ returns-in-Err-clause-balanced g c e =
 
 pub returns-in-Err-clause-infeasible : goal.returns-in-Err-clause-infeasible
 returns-in-Err-clause-infeasible g c e =
+    absurd (subst IsRefusal (sym c.refused.ensures ∙ e) (is-refusal c.in-Err.fault))
+
+pub returns-in-Err-clause-migrated : goal.returns-in-Err-clause-migrated
+returns-in-Err-clause-migrated g c e =
     absurd (subst IsRefusal (sym c.refused.ensures ∙ e) (is-refusal c.in-Err.fault))
 
 pub returns-in-Err-clause-used : goal.returns-in-Err-clause-used
@@ -76,6 +80,9 @@ returns-in-Ok-deliver-clause-write_fault g c = done-writes c.in-Ok-prepare.prepa
 
 pub returns-in-Ok-deliver-clause-sink_fault : goal.returns-in-Ok-deliver-clause-sink_fault
 returns-in-Ok-deliver-clause-sink_fault g c e = absurd (subst IsDone e (answer-done c.in-Ok-prepare.ensures.answer c.in-Ok-prepare.prepared.done c.in-Ok-prepare.ensures.ends))
+
+pub returns-in-Ok-deliver-clause-migrated : goal.returns-in-Ok-deliver-clause-migrated
+returns-in-Ok-deliver-clause-migrated g c e = absurd (answer-no-migration c.in-Ok-prepare.ensures.answer c.in-Ok-prepare.prepared.done c.in-Ok-prepare.ensures.ends e)
 
 pub returns-in-Ok-deliver-clause-used : goal.returns-in-Ok-deliver-clause-used
 returns-in-Ok-deliver-clause-used g c e = absurd (subst IsDone e (answer-done c.in-Ok-prepare.ensures.answer c.in-Ok-prepare.prepared.done c.in-Ok-prepare.ensures.ends))
@@ -110,6 +117,9 @@ returns-clause-balanced g c e = absurd (subst IsStop e (is-stop (map (λ (output
 
 pub returns-clause-infeasible : goal.returns-clause-infeasible
 returns-clause-infeasible g c e = absurd (subst IsStop e (is-stop (map (λ (output : Output). output.name) c.in-Ok-prepare.prepared.made.outputs.items) c.in-Err-deliver.stopped c.in-Err-deliver.ensures.stops))
+
+pub returns-clause-migrated : goal.returns-clause-migrated
+returns-clause-migrated g c e = absurd (subst IsStop e (is-stop (map (λ (output : Output). output.name) c.in-Ok-prepare.prepared.made.outputs.items) c.in-Err-deliver.stopped c.in-Err-deliver.ensures.stops))
 
 pub returns-clause-used : goal.returns-clause-used
 returns-clause-used g c e = absurd (subst IsStop e (is-stop (map (λ (output : Output). output.name) c.in-Ok-prepare.prepared.made.outputs.items) c.in-Err-deliver.stopped c.in-Err-deliver.ensures.stops))

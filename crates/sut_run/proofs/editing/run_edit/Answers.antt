@@ -12,7 +12,7 @@ use Rattle.sut_run.specs.Inputs.{input_of, to_edit}
 use Rattle.sut_run.specs.Outputs.{texts_in}
 use Rattle.sut_run.specs.Steps.{Delivered, IfReadFault, IfWriteFault}
 use Rattle.sut_run.specs.Ends.{AnswersInput, IsDone, Stands}
-use Rattle.sut_run.proofs.Delivered.{IsRefusal, IsStop, answer-done, done-answers, done-reads, done-stands, done-writes, failed-answers, failed-reads, failed-stands, failed-writes, is-stop}
+use Rattle.sut_run.proofs.Delivered.{IsRefusal, IsStop, answer-done, answer-no-migration, done-answers, done-reads, done-stands, done-writes, failed-answers, failed-reads, failed-stands, failed-writes, is-stop}
 use Rattle.sut_run.proofs.EditDelivered.{edit-names-within, edits-answers, edits-given, edits-reads, edits-told, edits-writes, gives-edits, is-edits-refusal, is-stopped-refusal, stopped-answers, stopped-reads, stopped-told, stopped-writes}
 use Rattle.sut_run.proofs.EditHeadlined.{edit-balanced-told, edit-infeasible-told}
 use Rattle.sut_run.proofs.Lists.{names_in}
@@ -44,6 +44,10 @@ returns-in-Err-clause-balanced g c e =
 
 pub returns-in-Err-clause-infeasible : goal.returns-in-Err-clause-infeasible
 returns-in-Err-clause-infeasible g c e =
+    absurd (subst IsRefusal (sym c.edits_refused.ensures ∙ e) (is-edits-refusal c.in-Err.fault))
+
+pub returns-in-Err-clause-migrated : goal.returns-in-Err-clause-migrated
+returns-in-Err-clause-migrated g c e =
     absurd (subst IsRefusal (sym c.edits_refused.ensures ∙ e) (is-edits-refusal c.in-Err.fault))
 
 pub returns-in-Err-clause-used : goal.returns-in-Err-clause-used
@@ -78,6 +82,10 @@ pub returns-in-Err-prepare_given-clause-infeasible : goal.returns-in-Err-prepare
 returns-in-Err-prepare_given-clause-infeasible g c e =
     absurd (subst IsRefusal (sym c.edit_stopped.ensures ∙ e) (is-stopped-refusal c.in-Err-prepare_given.fault))
 
+pub returns-in-Err-prepare_given-clause-migrated : goal.returns-in-Err-prepare_given-clause-migrated
+returns-in-Err-prepare_given-clause-migrated g c e =
+    absurd (subst IsRefusal (sym c.edit_stopped.ensures ∙ e) (is-stopped-refusal c.in-Err-prepare_given.fault))
+
 pub returns-in-Err-prepare_given-clause-used : goal.returns-in-Err-prepare_given-clause-used
 returns-in-Err-prepare_given-clause-used g c e =
     absurd (subst IsRefusal (sym c.edit_stopped.ensures ∙ e) (is-stopped-refusal c.in-Err-prepare_given.fault))
@@ -103,6 +111,10 @@ returns-in-Ok-deliver-clause-write_fault g c =
 pub returns-in-Ok-deliver-clause-sink_fault : goal.returns-in-Ok-deliver-clause-sink_fault
 returns-in-Ok-deliver-clause-sink_fault g c e =
     absurd (subst IsDone e (answer-done c.in-Ok-prepare_given.ensures.prepared.is.answer c.in-Ok-prepare_given.prepared.done c.in-Ok-prepare_given.ensures.prepared.is.ends))
+
+pub returns-in-Ok-deliver-clause-migrated : goal.returns-in-Ok-deliver-clause-migrated
+returns-in-Ok-deliver-clause-migrated g c e =
+    absurd (answer-no-migration c.in-Ok-prepare_given.ensures.prepared.is.answer c.in-Ok-prepare_given.prepared.done c.in-Ok-prepare_given.ensures.prepared.is.ends e)
 
 pub returns-in-Ok-deliver-clause-used : goal.returns-in-Ok-deliver-clause-used
 returns-in-Ok-deliver-clause-used g c e =
@@ -140,6 +152,10 @@ returns-clause-balanced g c e =
 
 pub returns-clause-infeasible : goal.returns-clause-infeasible
 returns-clause-infeasible g c e =
+    absurd (subst IsStop e (is-stop (map (λ (output : Output). output.name) c.in-Ok-prepare_given.prepared.made.outputs.items) c.in-Err-deliver.stopped c.in-Err-deliver.ensures.stops))
+
+pub returns-clause-migrated : goal.returns-clause-migrated
+returns-clause-migrated g c e =
     absurd (subst IsStop e (is-stop (map (λ (output : Output). output.name) c.in-Ok-prepare_given.prepared.made.outputs.items) c.in-Err-deliver.stopped c.in-Err-deliver.ensures.stops))
 
 pub returns-clause-used : goal.returns-clause-used

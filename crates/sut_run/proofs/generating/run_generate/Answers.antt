@@ -56,6 +56,10 @@ pub returns-clause-infeasible : goal.returns-clause-infeasible
 returns-clause-infeasible g c e =
     absurd (subst IsStop e (is-stop (map (λ (output : Output). output.name) c.in-Ok.made.outputs.items) c.in-Err-deliver.stopped c.in-Err-deliver.ensures.stops))
 
+pub returns-clause-migrated : goal.returns-clause-migrated
+returns-clause-migrated g c e =
+    absurd (subst IsStop e (is-stop (map (λ (output : Output). output.name) c.in-Ok.made.outputs.items) c.in-Err-deliver.stopped c.in-Err-deliver.ensures.stops))
+
 pub returns-clause-used : goal.returns-clause-used
 returns-clause-used g c e =
     absurd (subst IsStop e (is-stop (map (λ (output : Output). output.name) c.in-Ok.made.outputs.items) c.in-Err-deliver.stopped c.in-Err-deliver.ensures.stops))
