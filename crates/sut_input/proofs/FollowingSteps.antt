@@ -14,7 +14,7 @@ use Rattle.sut_input.specs.Inputs.{problem_in, problem_names, read_bytes}
 use Rattle.sut_input.specs.Following.{FailsIn, IfReadFailed, RefusesAs, StepOf, UnlessNoMemory, after_problem, failed_read, following}
 
 -- facts on refusals but want of memory
-unless-as : (P Q : Type 0) → (P → Q) → (part : Option InputFault) → UnlessNoMemory part P → UnlessNoMemory part Q
+pub unless-as : (P Q : Type 0) → (P → Q) → (part : Option InputFault) → UnlessNoMemory part P → UnlessNoMemory part Q
 unless-as P Q f None h = f h
 unless-as P Q f (Some NoMemory) h = tt
 unless-as P Q f (Some (Missing n)) h = f h
@@ -66,7 +66,7 @@ named-part name before now last (BadClasses e) h = tt
 named-part name before now last (BadSource e) h = tt
 
 -- a later read that fails doesn't change what a step gave
-given-part : {A E : Type 0} (step : StepOf E A) (files : Files) (a : A) (N : FileName → Type 0) → ((name : FileName) → N name → step (Some name) files ≡ step None files)
+pub given-part : {A E : Type 0} (step : StepOf E A) (files : Files) (a : A) (N : FileName → Type 0) → ((name : FileName) → N name → step (Some name) files ≡ step None files)
     → (part : Option InputFault) → IfReadFailed part N → step None files ≡ Ok a → step (failed_read part) files ≡ Ok a
 given-part step files a N still None h e = e
 given-part step files a N still (Some NoMemory) h e = e
@@ -78,7 +78,7 @@ given-part step files a N still (Some (BadClasses f)) h e = e
 given-part step files a N still (Some (BadSource f)) h e = e
 
 -- a list of one name
-only-one : (name failed : FileName) → Contains (name ∷ []) failed → failed ≡ name
+pub only-one : (name failed : FileName) → Contains (name ∷ []) failed → failed ≡ name
 only-one name failed (zero, below, is) = sym is
 only-one name failed (suc k, below, is) = absurd (omega arith)
 

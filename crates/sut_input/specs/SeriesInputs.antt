@@ -52,12 +52,15 @@ unfoldable pub series_over : ℕ → SettingsFacts → ClassLists → StepOf Ser
 series_over n s cs failed files =
     and_then (years_in s cs n failed files) (λ ps. and_then (dismissals_in n failed files) (λ lines. Ok (ps, lines)))
 
+-- over these settings: classes, years and dismissals
+unfoldable pub series_under : ℕ → SettingsFacts → StepOf SeriesInputFault (SettingsFacts × List ProblemFacts × List DismissLine)
+series_under n s failed files =
+    and_then (fault_as Input (classes_in failed files))
+    (λ cs. and_then (series_over n s cs failed files) (λ given. Ok (s, given.0, given.1)))
+
 -- the settings, the problems of so many years, and the dismissals
 unfoldable pub series_input_in : ℕ → StepOf SeriesInputFault (SettingsFacts × List ProblemFacts × List DismissLine)
-series_input_in n failed files =
-    and_then (fault_as Input (settings_in failed files)) (λ s.
-    and_then (fault_as Input (classes_in failed files)) (λ cs.
-    and_then (series_over n s cs failed files) (λ given. Ok (s, given.0, given.1))))
+series_input_in n failed files = and_then (fault_as Input (settings_in failed files)) (λ s. series_under n s failed files)
 
 -- the names that are read over the settings and the classes, and all that are read, in order
 abbrev pub names_over : ℕ → List FileName
