@@ -1,6 +1,6 @@
 -- A line by its steps, a file by its first record, and what the asks of a file keep.
-use Rattle.std.proofs.Common.{◌≡◌, ◌==◌, ◌<◌, ◌≤◌, ◌+◌, ◌∷◌, ◌++◌, ◌∙◌, ℕ, List, [], Bool, true, false, Result, Ok, Err, length, refl, sym, ap, subst, arith, length-append}
-use Rattle.std.specs.Prelude.{All, IsTrue, nat_lt}
+use Rattle.std.proofs.Common.{◌≡◌, ◌==◌, ◌≤◌, ◌+◌, ◌∷◌, ◌++◌, ℕ, List, [], Bool, true, false, Result, Ok, Err, length, refl, subst, arith, length-append}
+use Rattle.std.specs.Prelude.{All, IfOk, IsTrue, nat_lt, not}
 use Rattle.std.proofs.lemmas.Bool.Decides.{nat_tests}
 use Rattle.std.proofs.lemmas.List.Elements.{All-nil, All-push}
 use Rattle.sut_records.specs.RecordList.{Fields, same_fields}
@@ -83,7 +83,7 @@ unfolding ask_line
 line-keeps p n asks line after kept h = by (ask_read p (length asks) line) refl h
   where
     by : (r : Result Measure AskCause) → ask_read p (length asks) line ≡ r
-        → fault_as (λ cause. record { line = n; cause = cause }) (and_then r (λ m. Ok (asks ++ m ∷ []))) ≡ Ok after → Kept p after
+        → fault_as {G = AskFault} (λ (cause : AskCause). record { line = n; cause = cause }) (and_then r (λ m. Ok (asks ++ m ∷ []))) ≡ Ok after → Kept p after
     by (Err cause) e h = cc
     by (Ok m) e h =
         let facts = ask-kept p (length asks) line m e in
@@ -93,11 +93,12 @@ line-keeps p n asks line after kept h = by (ask_read p (length asks) line) refl 
 lines-keep : (p : ProblemFacts) (lines : List Fields) (n : ℕ) (asks after : List Measure) → Kept p asks → read_lines (ask_line p) n asks lines ≡ Ok after → Kept p after
 unfolding read_lines
 lines-keep p [] n asks after kept h = let same : asks ≡ after = cc in subst (λ ms. Kept p ms) same kept
-lines-keep p (line ∷ lines) n asks after kept h = by (ask_line p n asks line) refl h
+lines-keep p (line ∷ lines) n asks after kept h = by (λ ms k e. lines-keep p lines (n + 1) ms after k e) (ask_line p n asks line) refl h
   where
-    by : (r : Result (List Measure) AskFault) → ask_line p n asks line ≡ r → and_then r (λ ms. read_lines (ask_line p) (n + 1) ms lines) ≡ Ok after → Kept p after
-    by (Err e) is h = cc
-    by (Ok ms) is h = lines-keep p lines (n + 1) ms after (line-keeps p n asks line ms kept is) h
+    by : ((ms : List Measure) → Kept p ms → read_lines (ask_line p) (n + 1) ms lines ≡ Ok after → Kept p after)
+        → (r : Result (List Measure) AskFault) → ask_line p n asks line ≡ r → and_then r (λ ms. read_lines (ask_line p) (n + 1) ms lines) ≡ Ok after → Kept p after
+    by rest (Err e) is h = cc
+    by rest (Ok ms) is h = rest ms (line-keeps p n asks line ms kept is) h
 
 module _ (p : ProblemFacts) (lines : List Fields) (asks : List Measure) (read : read_lines (ask_line p) 2 [] lines ≡ Ok asks) where
   all-kept : Kept p asks
@@ -108,6 +109,16 @@ module _ (p : ProblemFacts) (lines : List Fields) (asks : List Measure) (read : 
 
   pub asks-few : length asks ≤ 64
   asks-few = all-kept.few
+
+-- what the asks have, those that are answered have
+pub some-keeps : {V : Type 0} (r : Result V AskFault) (items : V → List Measure) (P : List Measure → Type 0) (asks : List Measure)
+    → some_ask asks ≡ and_then r (λ v. Ok (items v)) → P asks → IfOk r (λ v. P (items v))
+some-keeps (Err e) items P asks h has = tt
+some-keeps (Ok v) items P asks h has = by (length asks == 0) h
+  where
+    by : (none : Bool) → only_if {F = AskFault} (not none) (record { line = 2; cause = fault.Short }) (Ok asks) ≡ Ok (items v) → P (items v)
+    by true h = cc
+    by false h = let same : asks ≡ items v = cc in subst P same has
 
 -- ---- the header
 

@@ -1,4 +1,4 @@
-use Rattle.std.proofs.Common.{◌≡◌, ◌∙◌, Ok, Err, ap, arith, length}
+use Rattle.std.proofs.Common.{◌∙◌, Ok, Err, ap, arith, length}
 use Rattle.csv.specs.Records.{fields_of}
 use Rattle.sut_records.proofs.FirstFaultLemmas.{line-judged, lines-ended}
 use Rattle.sut_asks.specs.AsksFile.{ask_line}
