@@ -56,14 +56,46 @@ const CROSSED: &str = "make,X,A,,,,95,95\nbasic,X,F,,,,0,90\nadded,V,A,,,,0,1000
 const NO_AXIS: &str = "axis,code,kind\nthing,X,\n";
 
 /// The word, classes, rows, the room of standard output, the number, and both outputs.
-type Case = (&'static str, &'static str, &'static str, usize, u8, &'static str, &'static str);
+type Case = (
+    &'static str,
+    &'static str,
+    &'static str,
+    usize,
+    u8,
+    &'static str,
+    &'static str,
+);
 
 const CASES: [Case; 6] = [
-    ("balance", SMALL, GAP, 1000, 0, "balanced\ncost 8\ngdp 102 102 102\n", ""),
-    ("balance", SMALL, CROSSED, 1000, 3, "infeasible\nentering 95\nleaving 90\n", ""),
+    (
+        "balance",
+        SMALL,
+        GAP,
+        1000,
+        0,
+        "balanced\ncost 8\ngdp 102 102 102\n",
+        "",
+    ),
+    (
+        "balance",
+        SMALL,
+        CROSSED,
+        1000,
+        3,
+        "infeasible\nentering 95\nleaving 90\n",
+        "",
+    ),
     ("migrate", SMALL, GAP, 1000, 0, "migrated 4\n", ""),
     ("balance", SMALL, GAP, 5, 13, "balan", "sut: cannot print\n"),
-    ("balance", NO_AXIS, GAP, 1000, 6, "", "sut: classes.csv line 2: unknown-axis\n"),
+    (
+        "balance",
+        NO_AXIS,
+        GAP,
+        1000,
+        6,
+        "",
+        "sut: classes.csv line 2: unknown-axis\n",
+    ),
     ("edit", SMALL, GAP, 1000, 12, "", "sut: missing edits.csv\n"),
 ];
 
@@ -113,7 +145,10 @@ fn other_words(rt: HostRuntime) -> Result<(), Fail> {
 const COMMANDS: [(&str, &[&str]); 4] = [
     ("\n  balance\n", &["sut", "balance"]),
     ("\n  edit\n", &["sut", "edit"]),
-    ("\n  generate SEED PRODUCTS INDUSTRIES\n", &["sut", "generate", "1", "1", "1"]),
+    (
+        "\n  generate SEED PRODUCTS INDUSTRIES\n",
+        &["sut", "generate", "1", "1", "1"],
+    ),
     ("\n  migrate\n", &["sut", "migrate"]),
 ];
 

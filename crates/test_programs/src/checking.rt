@@ -46,7 +46,10 @@ fn edited_year(alloc: Global) -> Result<SteadyShelf, Fail> {
             (FileName::SettingsToml, FLAT),
             (FileName::ClassesCsv, SMALL),
             (FileName::SourceCsv, SOURCE),
-            (FileName::EditsCsv, "edit,kind,a,b,c,target,grade,lower,upper\nbalance,,,,,,,,\n"),
+            (
+                FileName::EditsCsv,
+                "edit,kind,a,b,c,target,grade,lower,upper\nbalance,,,,,,,,\n",
+            ),
         ],
     )?;
     let mut out = MemorySink::new(alloc, 1000, Vec::new(alloc))?;
@@ -61,7 +64,12 @@ fn edited_year(alloc: Global) -> Result<SteadyShelf, Fail> {
 type Case = (&'static [&'static str], u8, &'static str, &'static str);
 
 const CASES: [Case; 2] = [
-    (&["sutcheck"], 7, "", "sutcheck: source.csv line 1: header\n"),
+    (
+        &["sutcheck"],
+        7,
+        "",
+        "sutcheck: source.csv line 1: header\n",
+    ),
     (&["sutcheck", "edited"], 0, "least\ncost 8\n", ""),
 ];
 
@@ -87,7 +95,9 @@ const OTHER_WORDS: [&[&str]; 5] = [
 
 #[test]
 fn other_words(rt: HostRuntime) -> Result<(), Fail> {
-    let head = format!(in rt.alloc(); "sutcheck: usage: no word, or edited\nsutcheck {VERSION}: checks ")?;
+    let head = format!(in rt.alloc();
+        "sutcheck: usage: no word, or edited\nsutcheck {VERSION}: checks "
+    )?;
     for args in OTHER_WORDS {
         let mut shelf = SteadyShelf::new(rt.alloc());
         let ended = ended(rt.alloc(), args, &mut shelf)?;
@@ -117,7 +127,11 @@ fn arguments_that_cannot_be_had(rt: HostRuntime) -> Result<(), Fail> {
     let alloc = rt.alloc();
     for (kind, code, line) in [
         (ErrorKind::OutOfMemory, 1, "sutcheck: out of memory\n"),
-        (ErrorKind::InvalidData, 2, "sutcheck: usage: no word, or edited\n"),
+        (
+            ErrorKind::InvalidData,
+            2,
+            "sutcheck: usage: no word, or edited\n",
+        ),
     ] {
         let mut shelf = SteadyShelf::new(alloc);
         let mut out = MemorySink::new(alloc, 0, Vec::new(alloc))?;

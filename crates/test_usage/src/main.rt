@@ -17,5 +17,9 @@ fn main(rt: HostRuntime) -> ExitCode {
     let mut err = ConsoleSink::new(&rt);
     let sut = balance_program(rt.alloc(), env::args(&rt), &mut shelf, &mut out, &mut err);
     let sutcheck = check_program(rt.alloc(), env::args(&rt), &mut shelf, &mut out, &mut err);
-    if sut == sutcheck { sut } else { ExitCode::FAILURE }
+    if sut == sutcheck {
+        sut
+    } else {
+        ExitCode::FAILURE
+    }
 }
