@@ -208,8 +208,8 @@ class Run:
 
 
 def tell(program, fault, ends, bad):
-    codes = " | ".join(str(ends[it] or "") for it in ["whole", *CODES])
-    print(f"| `{program}`: {fault} | {sum(ends.values())} | {codes} | {len(bad)} |", flush=True)
+    codes = "".join(f" {ends[it]} |" if ends[it] else " |" for it in ["whole", *CODES])
+    print(f"| `{program}`: {fault} | {sum(ends.values())} |{codes} {len(bad)} |", flush=True)
     for it in bad[:3]:
         print(f"wrong: {it}", file=sys.stderr)
 
