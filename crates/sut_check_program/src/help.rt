@@ -25,9 +25,11 @@ Exit codes:
 
 /// The help text.
 pub(crate) fn help_text(alloc: Global) -> Result<String, AllocError> {
-    let about = format!(in alloc; "sutcheck {VERSION}: checks what stands written in the current folder, without a solver{{n}}\
+    let about = format!(in alloc;
+        "sutcheck {VERSION}: checks what stands written in the current folder, without a solver{{n}}\
         Reads settings.toml, classes.csv, source.csv or edited.csv, certificate.csv, and balanced.csv where the{{n}}\
-        certificate holds potentials")?;
+        certificate holds potentials"
+    )?;
     let edited = Command::new(alloc, "edited").about("Checks against edited.csv");
     let mut command = Command::new(alloc, "sutcheck")
         .about(about.as_str())

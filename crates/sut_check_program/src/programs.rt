@@ -1,5 +1,12 @@
 //! The program.
 
+ghost use Rattle.std.specs.Prelude.{◌≡◌, IfOk};
+ghost use Rattle.std.specs.Process.{exit_status};
+ghost use Rattle.sut_outside.specs.Files.{SameFiles, Told};
+ghost use Rattle.sut_check.specs.declared.statuses.CheckStatus.{CheckStatus};
+ghost use Rattle.sut_console.specs.Words.{words_in};
+ghost use Rattle.sut_check_program.specs.Programs.{Checks, EndsWith};
+
 use crate::endings::end;
 use std::alloc::Global;
 use std::env::Args;
@@ -16,7 +23,10 @@ fn check_words<F: Shelf, K: Sink>(
     args: Args,
     shelf: &mut F,
     out: &mut K,
-) -> CheckStatus {
+) -> CheckStatus
+    ensures files { Told (F.files shelf.old) (F.files shelf.new) SameFiles }
+    ensures checks { Checks (words_in args) (F.files shelf.old) (K.sent out.old) (K.sent out.new) result }
+{
     match words_behind_name(alloc, args) {
         Ok(words) => check_run(alloc, &words, shelf, out),
         Err(_) => CheckStatus::NoMemory,
@@ -39,7 +49,14 @@ pub fn check_program<F: Shelf, K: Sink, E: Sink>(
     shelf: &mut F,
     out: &mut K,
     err: &mut E,
-) -> ExitCode {
+) -> ExitCode
+    // It writes no file.
+    ensures files { Told (F.files shelf.old) (F.files shelf.new) SameFiles }
+
+    // It ends with the code and the text of one status, which says what `check_run` says of the words behind the name.
+    ensures ends { (status : CheckStatus) × EndsWith (E.sent err.old) (E.sent err.new) (exit_status result) status
+        × IfOk args (λ given. Checks (words_in given) (F.files shelf.old) (K.sent out.old) (K.sent out.new) status) }
+{
     let status = match args {
         Ok(args) => check_words(alloc, args, shelf, out),
         Err(fault) => status_without_words(&fault),

@@ -1,8 +1,8 @@
 //! What both programs take from the machine alike: the words behind the program's name. And the version of both.
 #![tactic(auto)]
 
-ghost use Rattle.std.specs.Prelude.{◌≡◌, IfOk, drop};
-ghost use Rattle.std.specs.Vec.Iter.{into_iter_items};
+ghost use Rattle.std.specs.Prelude.{◌≡◌, IfOk, map, string_bytes};
+ghost use Rattle.sut_console.specs.Words.{words_in};
 
 use no_memory::NoMemory;
 use std::alloc::Global;
@@ -13,7 +13,7 @@ pub const VERSION: &str = "0.1.0";
 
 /// The words behind the first argument, which is the program's name.
 pub fn words_behind_name(alloc: Global, args: Args) -> Result<Vec<String>, NoMemory>
-    ensures { IfOk result (λ words. words.items ≡ drop 1 (into_iter_items args)) }
+    ensures { IfOk result (λ words. map string_bytes words.items ≡ words_in args) }
 {
     Ok(args.skip(1).collect(alloc)?)
 }

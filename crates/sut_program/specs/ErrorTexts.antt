@@ -2,7 +2,7 @@
 use Rattle.std.specs.Prelude.{◌≡◌, ◌⊎◌, ℕ, List, [], ◌++◌}
 use Rattle.sut_outside.specs.Sent.{AppendsPart}
 use Rattle.sut_status.specs.declared.statuses.Status.{Status}
-use Rattle.sut_status.specs.declared.statuses.Status.TheVariants.{Balanced, Generated, Infeasible, Usage, NoMemory}
+use Rattle.sut_status.specs.declared.statuses.Status.TheVariants.{Balanced, Generated, Migrated, Published, Ranged, Series, Shared, Infeasible, Usage, NoMemory}
 use Rattle.sut_status.specs.StatusLines.{status_line}
 
 -- a line, and a help text behind it
@@ -14,6 +14,11 @@ pub record IsLineAndHelp (line text : List ℕ) : Type 0 where
 abbrev pub IsErrorText : Status → List ℕ → Type 0
 IsErrorText Balanced text = text ≡ []
 IsErrorText Generated text = text ≡ []
+IsErrorText Migrated text = text ≡ []
+IsErrorText Published text = text ≡ []
+IsErrorText Ranged text = text ≡ []
+IsErrorText Series text = text ≡ []
+IsErrorText Shared text = text ≡ []
 IsErrorText Infeasible text = text ≡ []
 IsErrorText Usage text = IsLineAndHelp (status_line Usage) text
 IsErrorText status text = text ≡ status_line status

@@ -31,7 +31,14 @@ pub fn error_text(alloc: Global, status: Status) -> Result<Vec<u8>, NoMemory>
     ensures { IfOk result (λ text. IsErrorText status text.items) }
 {
     match status {
-        Status::Balanced | Status::Generated | Status::Infeasible => Ok(Vec::new(alloc)),
+        Status::Balanced
+        | Status::Generated
+        | Status::Migrated
+        | Status::Published
+        | Status::Ranged
+        | Status::Series
+        | Status::Shared
+        | Status::Infeasible => Ok(Vec::new(alloc)),
         Status::Usage => usage_text(alloc),
         _ => status.line(alloc),
     }

@@ -54,7 +54,9 @@ fn migrate_command(alloc: Global) -> Command<'static> {
 
 /// The help text.
 pub(crate) fn help_text(alloc: Global) -> Result<String, AllocError> {
-    let about = format!(in alloc; "sut {VERSION}: balances supply and use tables, over the files of the current folder")?;
+    let about = format!(in alloc;
+        "sut {VERSION}: balances supply and use tables, over the files of the current folder"
+    )?;
     let mut command = Command::new(alloc, "sut")
         .about(about.as_str())
         .disable_help_flag(true)
