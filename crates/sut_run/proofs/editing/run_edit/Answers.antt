@@ -5,6 +5,7 @@ use Rattle.sut_outside.specs.Causes.{Rose}
 use Rattle.sut_outside.proofs.NoneFailed.{both_stay}
 use Rattle.sut_outside.proofs.Told.{told_then, told_with}
 use Rattle.sut_status.specs.declared.statuses.Status.{Status}
+use Rattle.sut_status.specs.declared.statuses.Status.TheVariants.{SinkFault}
 use Rattle.sut_review.specs.Seats.{new_seat}
 use Rattle.sut_run.specs.declared.commands.Command.TheVariants.{Edit}
 use Rattle.sut_run.specs.declared.writing.Output.{Output}
@@ -195,4 +196,5 @@ returns-clause-printed g c =
     (map (λ (output : Output). output.name) c.in-Ok-prepare_given.prepared.made.outputs.items) c.in-Err-deliver.stopped c.in-Err-deliver.ensures.stops _ _ c.in-Err-deliver.ensures.sent
 
 pub returns-clause-sink_stays : goal.returns-clause-sink_stays
-returns-clause-sink_stays g c other = c.in-Err-deliver.ensures.sink_stays other
+returns-clause-sink_stays g c other =
+    c.in-Err-deliver.ensures.sink_stays (λ e. let same : c.in-Err-deliver.stopped ≡ SinkFault = cc in other same)
