@@ -1,0 +1,7 @@
+mod PlaceSums
+mod GdpSums
+mod PrintedLines
+mod Prices
+mod GroupSums
+mod LiveLists
+mod Priced
