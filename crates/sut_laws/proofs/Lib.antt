@@ -1,6 +1,7 @@
 mod PlaceSums
 mod GdpSums
 mod PrintedLines
+mod PrintedText
 mod Prices
 mod GroupSums
 mod LiveLists

@@ -57,11 +57,11 @@ module _ (test : Fields → Bool) where
 
 -- ---- what is printed for a number spells it
 
-small : (z : ℤ) → IsUpTo (2 ^ 60) z → mag z < 2 ^ 127
+pub small : (z : ℤ) → IsUpTo (2 ^ 60) z → mag z < 2 ^ 127
 small (pos n) r = omega (arith, ints, r.high)
 small (negsuc n) r = omega (arith, ints, r.low)
 
-wider : (z : ℤ) → IsUpTo (2 ^ 58) z → mag z < 2 ^ 127
+pub wider : (z : ℤ) → IsUpTo (2 ^ 58) z → mag z < 2 ^ 127
 wider (pos n) r = omega (arith, ints, r.high)
 wider (negsuc n) r = omega (arith, ints, r.low)
 

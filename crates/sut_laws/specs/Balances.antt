@@ -1,4 +1,6 @@
--- The balances of a table that meets the identities (SNA 2008, 6.8 and chapter 14), and the sums of groups.
+-- The balances of a table that meets the identities (SNA 2008, 6.8 and chapter 14), and the sums of groups. Every `Problem` is as
+-- `IsProblem` asks (`Problem::kept`); `Table::zeros` and `read_balanced` give tables of a problem, and where `first_open` answers
+-- none a table meets the identities.
 use Rattle.std.specs.Prelude.{◌≡◌, ℤ, ◌+ℤ◌, List, filter}
 use Rattle.sut_classes.specs.ClassLists.{ClassLists}
 use Rattle.sut_classes.specs.declared.ids.Column.{Column}

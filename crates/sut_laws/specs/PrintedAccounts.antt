@@ -1,9 +1,10 @@
 -- GDP of `accounts.csv` is what stands above it. SNA 2008, 2.138 to 2.140: output less intermediate consumption plus taxes less
 -- subsidies on products; incomes plus these taxes; final uses less imports. Subsidies are taxes below 0.
-use Rattle.std.specs.Prelude.{◌≡◌, ℕ, Bool, ◌||◌, if◌then◌else◌, ℤ, pos, neg_ℤ, ◌+ℤ◌, ◌-ℤ◌, List, [], ◌∷◌, ◌++◌, All, filter, bytes_eq, codes, Result, Ok, Err}
+use Rattle.std.specs.Prelude.{◌≡◌, ℕ, Bool, ◌||◌, if◌then◌else◌, ℤ, pos, neg_ℤ, ◌+ℤ◌, ◌-ℤ◌, List, [], ◌∷◌, ◌++◌, All, filter, bytes_eq, codes, Result, Ok, Err, IsOk}
 use Rattle.sut_text.specs.Number.{whole_of}
 use Rattle.sut_text.specs.declared.numbers.NumberFault.{NumberFault}
-use Rattle.sut_records.specs.RecordList.{Fields, field}
+use Rattle.sut_records.specs.RecordList.{Fields, field, records_of}
+use Rattle.sut_classes.specs.Kept.{IsClasses}
 use Rattle.sut_measures.specs.declared.measures.Total.TheVariants as total
 use Rattle.sut_tables.specs.Gdp.{expenditure, income, production}
 use Rattle.sut_tables.specs.ProblemFacts.{ProblemFacts}
@@ -13,7 +14,7 @@ use Rattle.sut_tables.specs.Rows.{InRange}
 use Rattle.sut_tables.specs.TableFacts.{TableFacts}
 use Rattle.sut_tables.specs.Values.{int_sum_by}
 use Rattle.sut_tables.specs.declared.tables.Held.{Held}
-use Rattle.sut_write.specs.Accounts.{account_lines}
+use Rattle.sut_write.specs.Accounts.{account_lines, accounts_text}
 use Rattle.sut_write.specs.Numbers.{all_inputs, all_outputs, all_taxes, total_of}
 use Rattle.sut_write.specs.Places.{finals, items}
 
@@ -57,9 +58,15 @@ pub record AddsUp (account : List ℕ) (lines : List Fields) : Type 0 where
   pub name : field last 1 ≡ codes "gdp"
   pub number : number_of last ≡ int_sum_by signed_number above
 
--- The lines of `accounts.csv` behind its header (`accounts_text` prints them), over every table of a problem, admissible or
--- not: each of the three accounts adds up to its line `gdp`. Every `Problem` and every `Table` is as the premises ask
--- (`Problem::kept`, `Table::cells`).
+-- The file `accounts.csv` reads back as its header and its lines, and the third field of each line spells a number. Every
+-- `Classes`, every `Problem` and every `Table` is as the premises ask (`Classes::kept`, `Problem::kept`, `Table::cells`).
+abbrev pub AccountsReadBack : Type 0
+AccountsReadBack =
+    (p : ProblemFacts) (t : TableFacts) → IsClasses p.classes → IsKept p → IsTableOf p t → All (λ (h : Held). InRange h.number) t.cells
+    → (records_of (accounts_text p.classes t) ≡ (codes "account" ∷ codes "entry" ∷ codes "value" ∷ []) ∷ account_lines p.classes t)
+    × All (λ line. IsOk (whole_of (field line 2))) (account_lines p.classes t)
+
+-- In these lines, over every table of a problem, admissible or not, each of the three accounts adds up to its line `gdp`.
 abbrev pub PrintedAccountsAddUp : Type 0
 PrintedAccountsAddUp =
     (p : ProblemFacts) (t : TableFacts) → IsKept p → IsTableOf p t → All (λ (h : Held). InRange h.number) t.cells

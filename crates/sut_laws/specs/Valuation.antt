@@ -1,5 +1,6 @@
 -- From basic to purchasers' prices (SNA 2008, 6.51 and 6.64, and chapter 14; UN Handbook on Supply and Use Tables, 2018,
--- chapter 7). Subsidies are taxes below 0.
+-- chapter 7). Subsidies are taxes below 0. Every `Problem` is as `IsProblem` asks (`Problem::kept`); `Table::zeros` and
+-- `read_balanced` give tables of a problem, and where `first_open` answers none a table meets the identities.
 use Rattle.std.specs.Prelude.{◌≡◌, ℤ, pos, ◌+ℤ◌}
 use Rattle.sut_classes.specs.declared.ids.Column.{Column}
 use Rattle.sut_classes.specs.declared.ids.MarginId.{MarginId}
