@@ -3,12 +3,11 @@
 # usage: docs/faults.sh FOLDER [EXAMPLE ..]
 # FOLDER holds the two programs, or is the top of a repository that has built them. It needs gcc and python3.
 #
-# Refused memory: each allocation in turn, alone and with all later ones, over a plain year, one that has no table, one under
-# edits, the small whole economy, and checks of what they wrote. A run is right that ends as the whole one, or with code 1, no
-# printed line, the line for want of memory, and the files written so far whole.
-# Failing devices: each call of open, read, write, close, rename, fsync and unlink in turn: an error, an interrupt, a short
-# or empty transfer, a half write with a full disk, and a kill before and within a write. A run is right where each name has
-# its old text or the whole new one, the new ones before the old ones.
+# The runs are a plain year, one that has no table, one under edits, the small whole economy, and checks of what they wrote.
+# Refused memory: each allocation in turn, alone and with all later ones.
+# Failing devices: each call of open, read, write, close, rename, fsync, unlink, statx and fchmod in turn: an error, an
+# interrupt, a file that isn't there, a short or an empty transfer, a half write with a full disk, and a kill before a call and
+# within a write. What a run must then leave stands in `is_right` and `is_right_after_kill`.
 set -eu
 folder=$(cd "${1:-$(dirname "$0")/..}" && pwd)
 top=$(cd "$(dirname "$0")/.." && pwd)
@@ -56,6 +55,7 @@ cat >"$work/devices.c" <<'C'
 #include <stdarg.h>
 #include <stdlib.h>
 #include <string.h>
+#include <sys/stat.h>
 #include <sys/syscall.h>
 #include <unistd.h>
 /* IO_AT=N: the Nth call fails with errno IO_ERR. IO_HOW: err, short (one byte), zero (answers 0), torn (half is written, then
@@ -113,6 +113,11 @@ int close(int fd)
 int rename(const char *from, const char *to) { return fails("rename") ? -1 : syscall(SYS_rename, from, to); }
 int fsync(int fd) { return fails("fsync") ? -1 : syscall(SYS_fsync, fd); }
 int unlink(const char *path) { return fails("unlink") ? -1 : syscall(SYS_unlink, path); }
+int fchmod(int fd, mode_t mode) { return fails("fchmod") ? -1 : syscall(SYS_fchmod, fd, mode); }
+int statx(int fd, const char *path, int flags, unsigned mask, struct statx *to)
+{
+    return fails("statx") ? -1 : syscall(SYS_statx, fd, path, flags, mask, to);
+}
 C
 for it in memory devices; do gcc -shared -fPIC -O2 -o "$work/$it.so" "$work/$it.c"; done
 
@@ -121,83 +126,139 @@ import collections, errno, os, shutil, subprocess, sys
 
 WRITTEN = "edited trail balanced supply use accounts certificate".split()
 WRITTEN = [f"{it}.csv" for it in WRITTEN] + ["report.json", "review.csv"]
-work, program, label, year, *words = sys.argv[1:]
-is_check = "check" in label
+work, sut, sutcheck, *runs = sys.argv[1:]
+CODES = [1, 10, 11, 12, 13, -9]
 
-
-def run(**env):
-    """The code, what was printed and the files after a run in a copy of the year, in which older texts stand."""
-    at = f"{work}/year"
-    shutil.rmtree(at, ignore_errors=True)
-    shutil.copytree(year, at)
-    for name in [] if is_check else WRITTEN:
-        with open(f"{at}/{name}", "w") as it:
-            it.write(f"OLD {name}\n")
-    ran = subprocess.run([program, *words], cwd=at, env={**os.environ, **env}, stdin=subprocess.DEVNULL, capture_output=True, timeout=60)
-    files = {name: open(f"{at}/{name}", "rb").read() for name in sorted(os.listdir(at))}
-    return ran.returncode, ran.stdout, ran.stderr, files
-
-
-def is_front(files, whole):
-    """Whether each name has its old or its whole new text, the new ones first."""
-    names = [it for it in WRITTEN if it in whole and whole[it] != old(it)]
-    states = ["new" if files.get(it) == whole[it] else "old" if files.get(it) == old(it) else "torn" for it in names]
-    return "torn" not in states and states == sorted(states)
+# For each fault: its errno, how it comes, and the calls that it is tried at (none: at each).
+DEVICE_FAULTS = {
+    "an error": (errno.EIO, "err", None),
+    "an interrupt": (errno.EINTR, "err", "open read write fsync rename unlink statx"),
+    "no such file": (errno.ENOENT, "err", "open statx"),
+    "one byte taken or given": (0, "short", "read write"),
+    "nothing taken": (0, "zero", "write"),
+    "a half written, then a full disk": (errno.ENOSPC, "torn", "write"),
+    "killed before the call": (0, "kill", None),
+    "killed with a half written": (0, "killtorn", "write"),
+}
 
 
 def old(name):
     return f"OLD {name}\n".encode()
 
 
-def tell(kind, runs, bad):
-    print(f"| {label} | {kind} | {runs} | {len(bad)} |" + (f" first: {bad[0]}" if bad else ""), flush=True)
+class Run:
+    """A command over a year: run in a copy of it, in which older texts stand under all names that are written."""
+
+    def __init__(self, label):
+        year, self.name, *self.words = label.split(",")
+        self.label = " ".join([year, self.name, *self.words])
+        self.program = sut if self.name == "sut" else sutcheck
+        self.year = f"{work}/{year}" + ("" if self.name == "sut" else "-written")
+        self.whole = self.under()
+
+    def under(self, in_place=False, **env):
+        """The code, what was printed and said, and the files afterwards."""
+        at = f"{work}/copy"
+        if not in_place:
+            shutil.rmtree(at, ignore_errors=True)
+            shutil.copytree(self.year, at)
+            for name in WRITTEN if self.name == "sut" else []:
+                with open(f"{at}/{name}", "wb") as it:
+                    it.write(old(name))
+        ran = subprocess.run(
+            [self.program, *self.words], cwd=at, env={**os.environ, **env}, stdin=subprocess.DEVNULL, capture_output=True, timeout=60
+        )
+        files = {name: open(f"{at}/{name}", "rb").read() for name in sorted(os.listdir(at))}
+        return ran.returncode, ran.stdout, ran.stderr.decode(), files
+
+    def states(self, files):
+        """For each name that a run writes, in order, whether its new or its old text stands, or none of them."""
+        now = self.whole[3]
+        names = [it for it in WRITTEN if it in now and now[it] != old(it) and self.name == "sut"]
+        return {it: "new" if files.get(it) == now[it] else "old" if files.get(it) == old(it) else "torn" for it in names}
+
+    def is_right(self, code, out, said, files):
+        """Whether a run that ended did so as the whole one, or as the code says that it must."""
+        whole_code, whole_out, _, whole_files = self.whole
+        if self.name == "sutcheck" or (code, out) == (whole_code, whole_out):
+            if files != whole_files:
+                return False
+        if (code, out) == (whole_code, whole_out):
+            return True
+        states = self.states(files)
+        order = list(states.values())
+        if set(files) != set(whole_files) or "torn" in order or order != sorted(order):
+            return False
+        word, _, name = said.rstrip("\n").removeprefix(f"{self.name}: ").rpartition(" ")
+        if code == 1:
+            return out == b"" and said == f"{self.name}: out of memory\n"
+        if code in (10, 12):
+            return out == b"" and word == {10: "cannot read", 12: "missing"}[code] and name in files and "new" not in order
+        if code == 11:
+            before, after = list(states)[:list(states).index(name)], list(states)[list(states).index(name) + 1:]
+            right = all(states[it] == "new" for it in before) and all(states[it] == "old" for it in after)
+            return out == b"" and word == "cannot write" and right
+        return code == 13 and whole_out.startswith(out) and "old" not in order
+
+    def is_right_after_kill(self, out, files):
+        """Whether a killed run left whole texts, the new ones first; and the next run in that folder ends as the whole one."""
+        order = list(self.states(files).values())
+        again = self.under(in_place=True)
+        return self.whole[1].startswith(out) and "torn" not in order and order == sorted(order) and again == self.whole
 
 
-def refused_memory(mode, kind):
-    base = {"LD_PRELOAD": f"{work}/memory.so", "COUNT_TO": f"{work}/count"}
-    whole, bad = run(**base), []
-    count = int(open(f"{work}/count").read())
-    for number in range(1, count + 1):
-        code, out, said, files = run(**base, **{mode: str(number)})
-        as_whole = (code, out) == whole[:2] and files == whole[3]
-        line = b"sutcheck: out of memory\n" if is_check else b"sut: out of memory\n"
-        without = code == 1 and out == b"" and said == line and (is_check or is_front(files, whole[3]))
-        if not as_whole and not without:
-            bad.append((number, code, out, said))
-    tell(kind, count, bad)
+def tell(program, fault, ends, bad):
+    codes = "".join(f" {ends[it]} |" if ends[it] else " |" for it in ["whole", *CODES])
+    print(f"| `{program}`: {fault} | {sum(ends.values())} |{codes} {len(bad)} |", flush=True)
+    for it in bad[:3]:
+        print(f"wrong: {it}", file=sys.stderr)
 
 
-def failing_devices():
-    log = f"{work}/log"
-    if os.path.exists(log):
-        os.remove(log)
-    whole = run(LD_PRELOAD=f"{work}/devices.so", IO_LOG=log)
-    calls = open(log).read().split()
-    for how, error, of in [
-        ("err", errno.EIO, None), ("err", errno.EINTR, ("open", "read", "write", "fsync", "rename", "unlink")),
-        ("short", 0, ("read", "write")), ("zero", 0, ("write",)), ("torn", errno.ENOSPC, ("write",)),
-        ("kill", 0, None), ("killtorn", 0, ("write",)),
-    ]:
-        bad, runs = [], 0
-        for number, name in enumerate(calls, 1):
-            if of and name not in of:
-                continue
-            runs += 1
-            code, out, said, files = run(LD_PRELOAD=f"{work}/devices.so", IO_AT=str(number), IO_ERR=str(error), IO_HOW=how)
-            ends = (code, out) == whole[:2] or code in (1, 10, 11, 12, 13) and (code == 13 or out == b"") or code == -9
-            if not ends or not is_front(files, whole[3]):
-                bad.append((number, name, code, out, said))
-        tell(f"{how} {errno.errorcode.get(error, '')}".strip(), runs, bad)
+def note(run, ended, ends, bad, place):
+    code, out, said, files = ended
+    right = run.is_right_after_kill(out, files) if code == -9 else run.is_right(code, out, said, files)
+    ends["whole" if (code, out) == run.whole[:2] else code] += 1
+    if not right or code not in (run.whole[0], *CODES):
+        bad.append((run.label, place, code, out, said))
 
 
-refused_memory("FAIL_AT", "one allocation refused")
-refused_memory("FAIL_FROM", "all from one on refused")
-if not is_check:
-    failing_devices()
+def refused_memory(program, mode, fault):
+    ends, bad = collections.Counter(), []
+    for run in program:
+        base = {"LD_PRELOAD": f"{work}/memory.so", "COUNT_TO": f"{work}/count"}
+        run.under(**base)
+        for number in range(1, int(open(f"{work}/count").read()) + 1):
+            note(run, run.under(**base, **{mode: str(number)}), ends, bad, number)
+    tell(program[0].name, fault, ends, bad)
+
+
+def failing_devices(program, fault):
+    error, how, of = DEVICE_FAULTS[fault]
+    ends, bad = collections.Counter(), []
+    for run in program:
+        base = {"LD_PRELOAD": f"{work}/devices.so"}
+        open(f"{work}/log", "w").close()
+        run.under(**base, IO_LOG=f"{work}/log")
+        for number, name in enumerate(open(f"{work}/log").read().split(), 1):
+            if of is None or name in of.split():
+                env = {"IO_AT": str(number), "IO_ERR": str(error), "IO_HOW": how}
+                note(run, run.under(**base, **env), ends, bad, (number, name))
+    tell(program[0].name, fault, ends, bad)
+
+
+print("| fault | runs | as without it | 1 | 10 | 11 | 12 | 13 | killed | wrong |")
+print("|---|---|---|---|---|---|---|---|---|---|")
+runs = [Run(it) for it in runs]
+for name in ["sut", "sutcheck"]:
+    program = [it for it in runs if it.name == name]
+    refused_memory(program, "FAIL_AT", "one allocation refused")
+    refused_memory(program, "FAIL_FROM", "one allocation and all later ones refused")
+    for fault in DEVICE_FAULTS:
+        if name == "sut" or "written" not in fault:
+            failing_devices(program, fault)
 PYTHON
 
-echo '| run | fault | runs | wrong |'
-echo '|---|---|---|---|'
+runs=()
 for year; do
     mkdir "$work/$year" "$work/$year-written"
     word=balance
@@ -205,9 +266,9 @@ for year; do
     for file in settings.toml classes.csv source.csv edits.csv; do
         [ ! -f "$top/examples/$year/$file" ] || cp "$top/examples/$year/$file" "$work/$year"
     done
-    [ ! -f "$work/$year/edits.csv" ] || { word=edit; rows=edited; }
-    python3 "$work/sweep.py" "$work" "$sut" "$year, sut $word" "$work/$year" $word
+    [ ! -f "$work/$year/edits.csv" ] || { word=edit; rows=,edited; }
     cp "$work/$year"/* "$work/$year-written"
     (cd "$work/$year-written" && "$sut" $word >"$work/said") || true
-    python3 "$work/sweep.py" "$work" "$sutcheck" "$year, sutcheck" "$work/$year-written" $rows
+    runs+=("$year,sut,$word" "$year,sutcheck$rows")
 done
+python3 "$work/sweep.py" "$work" "$sut" "$sutcheck" "${runs[@]}"

@@ -16,12 +16,13 @@ use Rattle.sut_check.specs.declared.statuses.CheckStatus.TheVariants as status
 use Rattle.sut_check.specs.declared.faults.CheckFault.{CheckFault}
 use Rattle.sut_check.specs.declared.faults.CheckFault.TheVariants as fault
 use Rattle.sut_check.specs.Statuses.{status_of}
+use Rattle.sut_check.specs.Claims as claims
 use Rattle.sut_check.specs.Claims.{FailsIn, Refuses, claim_in}
 use Rattle.sut_check.specs.Findings.{FindsLeast, FindsNoTable, check_text, verdict_of}
 use Rattle.sut_check.specs.declared.judging.Judged.{Judged}
 use Rattle.sut_check.specs.declared.judging.Judged.TheVariants as judged
 use Rattle.sut_check.specs.Judged.{EndsAs, IsJudged, lines_in}
-use Rattle.sut_check.specs.CheckEnds.{AnswersCheck, AnswersClaim, AreLines, IfReadFault, Prints}
+use Rattle.sut_check.specs.CheckEnds.{AnswersCheck, AnswersClaim, AreLines, IfReadFault, IsReadFault, Prints}
 
 -- ---- printing
 
@@ -193,3 +194,15 @@ is-refusal (fault.Input (input.BadClasses e)) = tt
 is-refusal (fault.Input (input.BadSource e)) = tt
 is-refusal (fault.BadCertificate e) = tt
 is-refusal (fault.BadTable e) = tt
+
+-- a refusal that is a failed read
+pub refused-failed : (f : CheckFault) → claims.IsReadFault f → IsReadFault (status_of f)
+refused-failed (fault.Input input.NoMemory) is = absurd is
+refused-failed (fault.Input (input.Missing n)) is = absurd is
+refused-failed (fault.Input (input.TooLong n)) is = absurd is
+refused-failed (fault.Input (input.ReadFault n)) is = tt
+refused-failed (fault.Input (input.BadSettings e)) is = absurd is
+refused-failed (fault.Input (input.BadClasses e)) is = absurd is
+refused-failed (fault.Input (input.BadSource e)) is = absurd is
+refused-failed (fault.BadCertificate e) is = absurd is
+refused-failed (fault.BadTable e) is = absurd is

@@ -68,3 +68,8 @@ AreLines source files lines = IsOkAnd (claim_in source None files) (λ claim. li
 abbrev pub IfReadFault : CheckStatus → (FileName → Type 0) → Type 0
 IfReadFault (ReadFault name) P = P name
 IfReadFault _ P = ⊤
+
+-- a failed read is answered
+abbrev pub IsReadFault : CheckStatus → Type 0
+IsReadFault (ReadFault name) = ⊤
+IsReadFault _ = ⊥

@@ -16,6 +16,7 @@ use Rattle.sut_cert.specs.declared.certificates.Certificate.{Certificate}
 use Rattle.sut_cert.specs.declared.certificates.Certificate.TheVariants as certificate
 use Rattle.sut_readback.specs.BalancedFile.{balanced_of}
 use Rattle.sut_input.specs.Inputs.{problem_in, read_bytes}
+use Rattle.sut_input.specs.Reads as reads
 use Rattle.sut_input.specs.declared.faults.InputFault.TheVariants as input
 use Rattle.sut_check.specs.declared.faults.CheckFault.{CheckFault}
 use Rattle.sut_check.specs.declared.faults.CheckFault.TheVariants.{Input, BadCertificate, BadTable}
@@ -77,3 +78,8 @@ IfReadFailed _ P = ⊤
 -- a failed read is answered only where the count rose, for one of these names, which is then that of the last failed call
 abbrev pub FailsIn : List FileName → ℕ → ℕ → Option FileName → CheckFault → Type 0
 FailsIn names before now last fault = IfReadFailed fault (λ failed. Rose before now × (last ≡ Some failed) × Contains names failed)
+
+-- a failed read is answered
+abbrev pub IsReadFault : CheckFault → Type 0
+IsReadFault (Input fault) = reads.IsReadFault fault
+IsReadFault _ = ⊥

@@ -2,24 +2,10 @@
 -- carries. Places are counted from 1.
 use Rattle.std.specs.Prelude.{ℕ, List, [], ◌∷◌, ◌++◌, codes}
 use Rattle.sut_text.specs.Text.{spaced, whole_text}
-use Rattle.sut_measures.specs.Words.{account_words, measure_words, nth}
-use Rattle.sut_tables.specs.declared.tables.Place.{Place}
-use Rattle.sut_tables.specs.declared.tables.Place.TheVariants as place
-use Rattle.sut_tables.specs.declared.tables.Broken.{Broken}
+use Rattle.sut_measures.specs.Words.{account_words, measure_words}
+use Rattle.sut_status.specs.BrokenTexts.{broken_text}
 use Rattle.sut_verify.specs.declared.verdicts.Reason.{Reason}
 use Rattle.sut_verify.specs.declared.verdicts.Reason.TheVariants as reason
-
--- an identity or a bound
-abbrev pub place_text : Place → List ℕ
-place_text (place.Product i) = spaced (codes "product" ∷ nth i.0 ∷ [])
-place_text (place.Industry j) = spaced (codes "industry" ∷ nth j.0 ∷ [])
-place_text (place.Margin k) = spaced (codes "margin" ∷ nth k.0 ∷ [])
-place_text (place.Below m) = spaced (codes "below" ∷ measure_words m)
-place_text (place.Above m) = spaced (codes "above" ∷ measure_words m)
-
--- where a table is broken, and both numbers
-abbrev pub broken_text : Broken → List ℕ
-broken_text b = place_text b.place ++ spaced (whole_text b.left ∷ whole_text b.right ∷ [])
 
 -- why a certificate is refused
 abbrev pub reason_text : Reason → List ℕ

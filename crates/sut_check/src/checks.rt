@@ -1,14 +1,14 @@
 //! The check of written files.
 
-ghost use Rattle.std.specs.Prelude.{◌≡◌, ◌⊎◌, ◌↔◌, None, Some, IfOk, IfSome, Contains, map, string_bytes};
+ghost use Rattle.std.specs.Prelude.{◌≡◌, ◌≢◌, ◌⊎◌, ◌↔◌, None, Some, IfOk, IfSome, Contains, map, string_bytes};
 ghost use Rattle.sut_outside.specs.Files.{SameFiles, Told};
-ghost use Rattle.sut_outside.specs.Causes.{Rose};
+ghost use Rattle.sut_outside.specs.Causes.{NoneFailed, Rose};
 ghost use Rattle.sut_check.specs.CheckWords.{IsCheckedSource, checked_names, checked_source};
 ghost use Rattle.sut_check.specs.Statuses.{status_for};
 ghost use Rattle.sut_check.specs.Claims.{claim_in};
 ghost use Rattle.sut_check.specs.Findings.{IsClaimFor, check_text, verdict_of};
 ghost use Rattle.sut_check.specs.Judged.{EndsAs, lines_in};
-ghost use Rattle.sut_check.specs.CheckEnds.{AnswersCheck, AnswersClaim, AreLines, IfReadFault, Prints};
+ghost use Rattle.sut_check.specs.CheckEnds.{AnswersCheck, AnswersClaim, AreLines, IfReadFault, IsReadFault, Prints};
 
 use crate::CheckStatus;
 use crate::claims::read_claim;
@@ -26,6 +26,7 @@ fn print_lines<K: Sink>(out: &mut K, lines: &[u8], ends: CheckStatus) -> CheckSt
     ensures answer { (result ≡ ends) ⊎ (result ≡ CheckStatus.SinkFault) }
     ensures printed { Told (K.sent out.old) (K.sent out.new) (Prints (λ text. text ≡ lines.now) result) }
     ensures sink_fault { result ≡ CheckStatus.SinkFault → Rose (K.faults out.old) (K.faults out.new) }
+    ensures sink_stays { result ≢ CheckStatus.SinkFault → K.faults out.new ≡ K.faults out.old }
 {
     match out.put(lines) {
         Ok(()) => ends,
@@ -38,6 +39,7 @@ fn print_judged<K: Sink>(out: &mut K, judged: &Judged) -> CheckStatus
     ensures ends { EndsAs judged.now result }
     ensures printed { Told (K.sent out.old) (K.sent out.new) (Prints (λ text. text ≡ lines_in judged.now) result) }
     ensures sink_fault { result ≡ CheckStatus.SinkFault → Rose (K.faults out.old) (K.faults out.new) }
+    ensures sink_stays { result ≢ CheckStatus.SinkFault → K.faults out.new ≡ K.faults out.old }
 {
     match judged {
         Judged::Least(lines) => print_lines(out, lines, CheckStatus::Least),
@@ -52,6 +54,7 @@ fn check_claim<K: Sink>(alloc: Global, p: &Problem, a: &Answer, out: &mut K) -> 
     ensures answers { AnswersClaim p.now a.now result }
     ensures printed { Told (K.sent out.old) (K.sent out.new) (Prints (λ lines. lines ≡ check_text p.now a.now) result) }
     ensures sink_fault { result ≡ CheckStatus.SinkFault → Rose (K.faults out.old) (K.faults out.new) }
+    ensures sink_stays { result ≢ CheckStatus.SinkFault → K.faults out.new ≡ K.faults out.old }
 {
     match judge(alloc, p, a) {
         Ok(judged) => print_judged(out, &judged),
@@ -72,6 +75,8 @@ fn check_source<F: Shelf, K: Sink>(
     ensures printed { Told (K.sent out.old) (K.sent out.new) (Prints (λ lines. IfSome (F.files shelf.old) (λ files. AreLines source files lines)) result) }
     ensures read_fault { IfReadFault result (λ failed. Rose (F.faults shelf.old) (F.faults shelf.new) × (F.last_failed shelf.new ≡ Some failed) × Contains (checked_names source) failed) }
     ensures sink_fault { result ≡ CheckStatus.SinkFault → Rose (K.faults out.old) (K.faults out.new) }
+    ensures shelf_stays { ¬ IsReadFault result → NoneFailed (F.faults shelf.old) (F.faults shelf.new) (F.last_failed shelf.old) (F.last_failed shelf.new) }
+    ensures sink_stays { result ≢ CheckStatus.SinkFault → K.faults out.new ≡ K.faults out.old }
     ensures used { (result ≡ CheckStatus.Usage) → ⊥ }
 {
     match read_claim(alloc, shelf, source) {
@@ -88,7 +93,8 @@ fn check_source<F: Shelf, K: Sink>(
 /// so that no admissible table of whole numbers costs less, and prints `least` and the cost (the weighted sum of penalties,
 /// Stone, Champernowne and Meade 1942). It answers `NoTable` exactly where the set of accounts contradicts the bounds, so that
 /// no table is admissible, and prints `no table` and both sums (Hoffman). Else it answers the first reason. No file changes;
-/// the first failure ends the check.
+/// the first failure ends the check, and is its answer: where that is no failed read, no read failed, and where it is not
+/// `SinkFault`, no put.
 pub fn check_run<F: Shelf, K: Sink>(
     alloc: Global,
     words: &[String],
@@ -109,6 +115,10 @@ pub fn check_run<F: Shelf, K: Sink>(
     ensures read_fault { IfReadFault result (λ failed. Rose (F.faults shelf.old) (F.faults shelf.new) × (F.last_failed shelf.new ≡ Some failed)
         × IfSome (checked_source (map string_bytes words.now)) (λ source. Contains (checked_names source) failed)) }
     ensures sink_fault { result ≡ CheckStatus.SinkFault → Rose (K.faults out.old) (K.faults out.new) }
+
+    // Where another answer is given, no call of the device failed.
+    ensures shelf_stays { ¬ IsReadFault result → NoneFailed (F.faults shelf.old) (F.faults shelf.new) (F.last_failed shelf.old) (F.last_failed shelf.new) }
+    ensures sink_stays { result ≢ CheckStatus.SinkFault → K.faults out.new ≡ K.faults out.old }
 
     // Where the files spell a claim and no count rose, the answer is that of the verifier, or memory ran out.
     ensures complete { IfSome (checked_source (map string_bytes words.now)) (λ source. IfSome (F.files shelf.old) (λ files.

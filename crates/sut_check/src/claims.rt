@@ -1,9 +1,10 @@
 //! What the files of a check spell.
 
-ghost use Rattle.std.specs.Prelude.{◌≡◌, ◌≤◌, IfErr, IfOk, IfSome, None, Ok};
+ghost use Rattle.std.specs.Prelude.{◌≡◌, ◌≤◌, IfErr, IfOk, IfSome, IsErrAnd, None, Ok};
+ghost use Rattle.sut_outside.specs.Causes.{NoneFailed};
 ghost use Rattle.sut_outside.specs.Files.{Told, SameFiles};
 ghost use Rattle.sut_check.specs.CheckWords.{IsCheckedSource, checked_names};
-ghost use Rattle.sut_check.specs.Claims.{FailsIn, Refuses, claim_in};
+ghost use Rattle.sut_check.specs.Claims.{FailsIn, IsReadFault, Refuses, claim_in};
 ghost use Rattle.sut_check.specs.Findings.{IsClaimFor};
 
 use crate::faults::CheckFault;
@@ -21,7 +22,8 @@ pub struct Claim {
 }
 
 /// Reads `settings.toml`, `classes.csv`, the source that stands under this name, `certificate.csv`, and `balanced.csv` where
-/// the certificate holds potentials, in this order, each parsed before the next is read. No file changes.
+/// the certificate holds potentials, in this order, each parsed before the next is read. No file changes. Where anything but
+/// a failed read is answered, no read failed.
 pub fn read_claim<F: Shelf>(
     alloc: Global,
     shelf: &mut F,
@@ -33,6 +35,7 @@ pub fn read_claim<F: Shelf>(
     ensures belongs { IfOk result (λ claim. IsClaimFor claim.input.problem claim.answer) }
     ensures err { IfErr result (λ fault. IfSome (F.files shelf.old) (λ files. Refuses (claim_in source) files fault)) }
     ensures cause { IfErr result (FailsIn (checked_names source) (F.faults shelf.old) (F.faults shelf.new) (F.last_failed shelf.new)) }
+    ensures stays { ¬ IsErrAnd result IsReadFault → NoneFailed (F.faults shelf.old) (F.faults shelf.new) (F.last_failed shelf.old) (F.last_failed shelf.new) }
 {
     let input = match read_problem(alloc, shelf, source) {
         Ok(input) => input,

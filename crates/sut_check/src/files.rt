@@ -1,10 +1,11 @@
 //! The files of an answer: a certificate, and with potentials a table.
 
-ghost use Rattle.std.specs.Prelude.{◌≡◌, ◌≤◌, ◌∷◌, [], IfErr, IfOk, IfSome, None, Ok};
+ghost use Rattle.std.specs.Prelude.{◌≡◌, ◌≤◌, ◌∷◌, [], IfErr, IfOk, IfSome, IsErrAnd, None, Ok};
+ghost use Rattle.sut_outside.specs.Causes.{NoneFailed};
 ghost use Rattle.sut_outside.specs.Files.{Told, SameFiles};
 ghost use Rattle.sut_tables.specs.Problems.{IsTableOf};
 ghost use Rattle.sut_check.specs.CheckWords.{answer_names};
-ghost use Rattle.sut_check.specs.Claims.{FailsIn, Refuses, answer_by, answer_in, certificate_in, table_in};
+ghost use Rattle.sut_check.specs.Claims.{FailsIn, IsReadFault, Refuses, answer_by, answer_in, certificate_in, table_in};
 ghost use Rattle.sut_check.specs.Findings.{IsClaimFor};
 
 use crate::faults::{CheckFault, certificate_fault, table_fault};
@@ -25,6 +26,7 @@ fn read_certificate_file<F: Shelf>(
     ensures err { IfErr result (λ fault. IfSome (F.files shelf.old) (λ files. Refuses (certificate_in p.now) files fault)) }
     ensures later { F.faults shelf.old ≤ F.faults shelf.new }
     ensures cause { IfErr result (FailsIn (FileName.CertificateCsv ∷ []) (F.faults shelf.old) (F.faults shelf.new) (F.last_failed shelf.new)) }
+    ensures stays { ¬ IsErrAnd result IsReadFault → NoneFailed (F.faults shelf.old) (F.faults shelf.new) (F.last_failed shelf.old) (F.last_failed shelf.new) }
 {
     let bytes = match read_file(shelf, FileName::CertificateCsv) {
         Ok(bytes) => bytes,
@@ -43,6 +45,7 @@ fn read_table_file<F: Shelf>(alloc: Global, shelf: &mut F, p: &Problem) -> Resul
     ensures err { IfErr result (λ fault. IfSome (F.files shelf.old) (λ files. Refuses (table_in p.now) files fault)) }
     ensures later { F.faults shelf.old ≤ F.faults shelf.new }
     ensures cause { IfErr result (FailsIn (FileName.BalancedCsv ∷ []) (F.faults shelf.old) (F.faults shelf.new) (F.last_failed shelf.new)) }
+    ensures stays { ¬ IsErrAnd result IsReadFault → NoneFailed (F.faults shelf.old) (F.faults shelf.new) (F.last_failed shelf.old) (F.last_failed shelf.new) }
 {
     let bytes = match read_file(shelf, FileName::BalancedCsv) {
         Ok(bytes) => bytes,
@@ -67,6 +70,7 @@ fn with_table<F: Shelf>(
     ensures err { IfErr result (λ fault. IfSome (F.files shelf.old) (λ files. Refuses (answer_by p.now (Certificate.Potentials potentials)) files fault)) }
     ensures later { F.faults shelf.old ≤ F.faults shelf.new }
     ensures cause { IfErr result (FailsIn (FileName.BalancedCsv ∷ []) (F.faults shelf.old) (F.faults shelf.new) (F.last_failed shelf.new)) }
+    ensures stays { ¬ IsErrAnd result IsReadFault → NoneFailed (F.faults shelf.old) (F.faults shelf.new) (F.last_failed shelf.old) (F.last_failed shelf.new) }
 {
     match read_table_file(alloc, shelf, p) {
         Ok(table) => Ok(Answer::Balanced(table, potentials)),
@@ -87,6 +91,7 @@ fn by_certificate<F: Shelf>(
     ensures err { IfErr result (λ fault. IfSome (F.files shelf.old) (λ files. Refuses (answer_by p.now certificate) files fault)) }
     ensures later { F.faults shelf.old ≤ F.faults shelf.new }
     ensures cause { IfErr result (FailsIn (FileName.BalancedCsv ∷ []) (F.faults shelf.old) (F.faults shelf.new) (F.last_failed shelf.new)) }
+    ensures stays { ¬ IsErrAnd result IsReadFault → NoneFailed (F.faults shelf.old) (F.faults shelf.new) (F.last_failed shelf.old) (F.last_failed shelf.new) }
 {
     match certificate {
         Certificate::Potentials(potentials) => with_table(alloc, shelf, p, potentials),
@@ -106,6 +111,7 @@ pub(crate) fn read_answer<F: Shelf>(
     ensures err { IfErr result (λ fault. IfSome (F.files shelf.old) (λ files. Refuses (answer_in p.now) files fault)) }
     ensures later { F.faults shelf.old ≤ F.faults shelf.new }
     ensures cause { IfErr result (FailsIn answer_names (F.faults shelf.old) (F.faults shelf.new) (F.last_failed shelf.new)) }
+    ensures stays { ¬ IsErrAnd result IsReadFault → NoneFailed (F.faults shelf.old) (F.faults shelf.new) (F.last_failed shelf.old) (F.last_failed shelf.new) }
 {
     match read_certificate_file(alloc, shelf, p) {
         Ok(certificate) => by_certificate(alloc, shelf, p, certificate),

@@ -1,45 +1,21 @@
 //! Why a certificate is refused, in words: the variant's name in lower case with dashes, and then what it carries. Places are
-//! counted from 1.
+//! counted from 1. After want of memory a part of the words may stand in `out`, behind what stood there.
 
 ghost use Rattle.std.specs.Prelude.{◌≡◌, ◌++◌, OnOk};
-ghost use Rattle.sut_check.specs.ReasonTexts.{broken_text, place_text, reason_text};
+ghost use Rattle.sut_text.specs.Text.{Keeps};
+ghost use Rattle.sut_check.specs.ReasonTexts.{reason_text};
 
 use no_memory::NoMemory;
-use sut_measures::words::{place as nth, put_account_words, put_measure_words};
-use sut_tables::{Broken, Place};
+use sut_measures::words::{put_account_words, put_measure_words};
+use sut_status::broken::put_broken;
 use sut_text::fields::{Field as Word, put_words};
 use sut_verify::Reason;
 
-/// An identity or a bound, each word behind a space.
-pub fn put_place(out: &mut Vec<u8>, place: Place) -> Result<(), NoMemory>
-    ensures { OnOk result (out.new.items ≡ out.old.items ++ place_text place) }
-{
-    match place {
-        Place::Product(i) => put_words(out, &[Word::Text(b"product"), nth(i.0)]),
-        Place::Industry(j) => put_words(out, &[Word::Text(b"industry"), nth(j.0)]),
-        Place::Margin(k) => put_words(out, &[Word::Text(b"margin"), nth(k.0)]),
-        Place::Below(measure) => {
-            put_words(out, &[Word::Text(b"below")])?;
-            put_measure_words(out, measure)
-        }
-        Place::Above(measure) => {
-            put_words(out, &[Word::Text(b"above")])?;
-            put_measure_words(out, measure)
-        }
-    }
-}
-
-/// Where a table is broken, and both numbers, each word behind a space.
-pub fn put_broken(out: &mut Vec<u8>, broken: Broken) -> Result<(), NoMemory>
-    ensures { OnOk result (out.new.items ≡ out.old.items ++ broken_text broken) }
-{
-    put_place(out, broken.place)?;
-    put_words(out, &[Word::Whole(broken.left), Word::Whole(broken.right)])
-}
-
-/// Why a certificate is refused, each word behind a space.
+/// Why a certificate is refused, each word behind a space. After want of memory a part may stand in `out`, behind what stood
+/// there.
 pub fn put_reason(out: &mut Vec<u8>, reason: Reason) -> Result<(), NoMemory>
-    ensures { OnOk result (out.new.items ≡ out.old.items ++ reason_text reason) }
+    ensures done { OnOk result (out.new.items ≡ out.old.items ++ reason_text reason) }
+    ensures kept { Keeps out.old.items out.new.items }
 {
     match reason {
         Reason::Open(broken) => {

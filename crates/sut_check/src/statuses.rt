@@ -2,9 +2,10 @@
 
 ghost use Rattle.std.specs.Prelude.{◌≡◌, ◌++◌, IfOk, OnOk};
 ghost use Rattle.sut_check.specs.CheckCodes.{code};
-ghost use Rattle.sut_check.specs.CheckLines.{check_line, check_status_text};
+ghost use Rattle.sut_text.specs.Text.{Keeps};
+ghost use Rattle.sut_check.specs.CheckLines.{check_line, check_status_text, refused_text, usage_text};
 
-use crate::fault_words::{put_bad_certificate, put_bad_table};
+use crate::fault_words::put_bad_certificate;
 use crate::reasons::put_reason;
 use no_memory::NoMemory;
 use std::alloc::Global;
@@ -14,7 +15,10 @@ use sut_outside::FileName;
 use sut_readback::BalancedFault;
 use sut_settings::SettingsFault;
 use sut_source::SourceFault;
-use sut_status::places::{put_bad_classes, put_bad_settings, put_bad_source};
+use sut_status::endings::{
+    put_missing, put_out_of_memory, put_too_long, put_unprinted, put_unread,
+};
+use sut_status::places::{put_bad_classes, put_bad_settings, put_bad_source, put_bad_table};
 use sut_text::fields::{Field as Word, put_words};
 use sut_text::{put_byte, put_bytes};
 use sut_verify::Reason;
@@ -52,56 +56,49 @@ pub enum CheckStatus {
     TooLong(FileName),
 }
 
+fn put_usage(out: &mut Vec<u8>) -> Result<(), NoMemory>
+    ensures done { OnOk result (out.new.items ≡ out.old.items ++ usage_text) }
+    ensures kept { Keeps out.old.items out.new.items }
+{
+    put_words(
+        out,
+        &[
+            Word::Text(b"usage:"),
+            Word::Text(b"no"),
+            Word::Text(b"word,"),
+            Word::Text(b"or"),
+            Word::Text(b"edited"),
+        ],
+    )
+}
+
+fn put_refused(out: &mut Vec<u8>, reason: Reason) -> Result<(), NoMemory>
+    ensures done { OnOk result (out.new.items ≡ out.old.items ++ refused_text reason) }
+    ensures kept { Keeps out.old.items out.new.items }
+{
+    put_words(out, &[Word::Text(b"refused:")])?;
+    put_reason(out, reason)
+}
+
 // The words of a status, each behind a space.
 fn put_status(out: &mut Vec<u8>, status: &CheckStatus) -> Result<(), NoMemory>
-    ensures { OnOk result (out.new.items ≡ out.old.items ++ check_status_text status.now) }
+    ensures done { OnOk result (out.new.items ≡ out.old.items ++ check_status_text status.now) }
+    ensures kept { Keeps out.old.items out.new.items }
 {
     match status {
         CheckStatus::Least | CheckStatus::NoTable => put_words(out, &[Word::Text(b"ok")]),
-        CheckStatus::Refused(reason) => {
-            put_words(out, &[Word::Text(b"refused:")])?;
-            put_reason(out, *reason)
-        }
+        CheckStatus::Refused(reason) => put_refused(out, *reason),
         CheckStatus::BadCertificate(fault) => put_bad_certificate(out, *fault),
         CheckStatus::BadTable(fault) => put_bad_table(out, *fault),
-        CheckStatus::NoMemory => put_words(
-            out,
-            &[Word::Text(b"out"), Word::Text(b"of"), Word::Text(b"memory")],
-        ),
-        CheckStatus::Usage => put_words(
-            out,
-            &[
-                Word::Text(b"usage:"),
-                Word::Text(b"no"),
-                Word::Text(b"word,"),
-                Word::Text(b"or"),
-                Word::Text(b"edited"),
-            ],
-        ),
+        CheckStatus::NoMemory => put_out_of_memory(out),
+        CheckStatus::Usage => put_usage(out),
         CheckStatus::BadSettings(fault) => put_bad_settings(out, *fault),
         CheckStatus::BadClasses(fault) => put_bad_classes(out, *fault),
         CheckStatus::BadSource(fault) => put_bad_source(out, *fault),
-        CheckStatus::ReadFault(name) => put_words(
-            out,
-            &[
-                Word::Text(b"cannot"),
-                Word::Text(b"read"),
-                Word::Text(name.text().as_bytes()),
-            ],
-        ),
-        CheckStatus::Missing(name) => put_words(
-            out,
-            &[Word::Text(b"missing"), Word::Text(name.text().as_bytes())],
-        ),
-        CheckStatus::SinkFault => put_words(out, &[Word::Text(b"cannot"), Word::Text(b"print")]),
-        CheckStatus::TooLong(name) => put_words(
-            out,
-            &[
-                Word::Text(b"too"),
-                Word::Text(b"long"),
-                Word::Text(name.text().as_bytes()),
-            ],
-        ),
+        CheckStatus::ReadFault(name) => put_unread(out, *name),
+        CheckStatus::Missing(name) => put_missing(out, *name),
+        CheckStatus::SinkFault => put_unprinted(out),
+        CheckStatus::TooLong(name) => put_too_long(out, *name),
     }
 }
 

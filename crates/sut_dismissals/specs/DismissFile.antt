@@ -1,5 +1,5 @@
 -- Reading `dismiss.csv`: how a line is judged by the lines before it.
-use Rattle.std.specs.Prelude.{ℕ, ℤ, pos, ◌==◌, ◌&&◌, not, int_lt, unsigned_abs, nat_lt, if◌then◌else◌, Bool, List, [], ◌∷◌, ◌++◌, codes, length, Option, Some, None, Result, Ok, Err}
+use Rattle.std.specs.Prelude.{ℕ, ℤ, pos, ◌==◌, ◌&&◌, not, int_lt, unsigned_abs, nat_lt, if◌then◌else◌, List, [], ◌∷◌, ◌++◌, codes, length, Option, Some, None, Result, Ok, Err}
 use Rattle.sut_records.specs.RecordList.{Fields, field, records_of, same_fields}
 use Rattle.sut_records.specs.FirstFault.{and_then, fault_as, only_if, or_fault, read_lines}
 use Rattle.sut_text.specs.Number.{whole_of}

@@ -1,1 +1,2 @@
 pub mod DismissFile
+pub mod DismissRules

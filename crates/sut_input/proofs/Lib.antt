@@ -1,3 +1,6 @@
 pub mod ReadLemmas
 pub mod StepLemmas
 pub mod EditSteps
+pub mod FollowingSteps
+pub mod TableSteps
+pub mod AskSteps

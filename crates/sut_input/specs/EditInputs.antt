@@ -17,6 +17,7 @@ use Rattle.sut_input.specs.declared.faults.InputFault.TheVariants as input
 use Rattle.sut_input.specs.declared.edits.EditInputFault.{EditInputFault}
 use Rattle.sut_input.specs.declared.edits.EditInputFault.TheVariants.{Input, BadEdits}
 use Rattle.sut_input.specs.Inputs.{problem_in, problem_names, read_bytes}
+use Rattle.sut_input.specs.Reads as reads
 
 -- a step of reading: a function of the name of the read that fails, if one does, and of the files
 abbrev pub EditStep : Type 0 → Type 0
@@ -72,3 +73,8 @@ IfReadFailed _ P = ⊤
 -- a failed read is answered only where the count rose, for one of these names, which is then that of the last failed call
 abbrev pub FailsIn : List FileName → ℕ → ℕ → Option FileName → EditInputFault → Type 0
 FailsIn names before now last fault = IfReadFailed fault (λ failed. Rose before now × (last ≡ Some failed) × Contains names failed)
+
+-- a failed read is answered
+abbrev pub IsReadFault : EditInputFault → Type 0
+IsReadFault (Input fault) = reads.IsReadFault fault
+IsReadFault (BadEdits fault) = ⊥

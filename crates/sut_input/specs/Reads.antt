@@ -35,3 +35,8 @@ FailsBy name before now last fault = IfFailed fault (λ failed. Rose before now 
 
 abbrev pub FailsAmong : List FileName → ℕ → ℕ → Option FileName → InputFault → Type 0
 FailsAmong names before now last fault = IfFailed fault (λ failed. Rose before now × (last ≡ Some failed) × Contains names failed)
+
+-- a failed read is answered
+abbrev pub IsReadFault : InputFault → Type 0
+IsReadFault (ReadFault name) = ⊤
+IsReadFault _ = ⊥

@@ -1,10 +1,11 @@
 //! The problem of a year's files, and the edits of it.
 
-ghost use Rattle.std.specs.Prelude.{◌≡◌, ◌≤◌, ◌∷◌, [], All, IfErr, IfOk, IfSome, None, Ok};
+ghost use Rattle.std.specs.Prelude.{◌≡◌, ◌≤◌, ◌∷◌, [], All, IfErr, IfOk, IfSome, IsErrAnd, None, Ok};
+ghost use Rattle.sut_outside.specs.Causes.{NoneFailed};
 ghost use Rattle.sut_outside.specs.Files.{Told, SameFiles};
 ghost use Rattle.sut_source.specs.SourceText.{HasGrade};
 ghost use Rattle.sut_edits.specs.EditRules.{AreEditsOf};
-ghost use Rattle.sut_input.specs.EditInputs.{FailsIn, RefusesEdits, edit_input_in, edit_names, edits_fault, edits_in};
+ghost use Rattle.sut_input.specs.EditInputs.{FailsIn, IsReadFault, RefusesEdits, edit_input_in, edit_names, edits_fault, edits_in};
 
 use crate::faults::InputFault;
 use crate::files::read_file;
@@ -52,6 +53,7 @@ fn read_edits_file<F: Shelf>(
     ensures err { IfErr result (λ fault. IfSome (F.files shelf.old) (λ files. RefusesEdits (edits_in settings.now classes.now) files fault)) }
     ensures later { F.faults shelf.old ≤ F.faults shelf.new }
     ensures cause { IfErr result (FailsIn (FileName.EditsCsv ∷ []) (F.faults shelf.old) (F.faults shelf.new) (F.last_failed shelf.new)) }
+    ensures stays { ¬ IsErrAnd result IsReadFault → NoneFailed (F.faults shelf.old) (F.faults shelf.new) (F.last_failed shelf.old) (F.last_failed shelf.new) }
 {
     let bytes = match read_file(shelf, FileName::EditsCsv) {
         Ok(bytes) => bytes,
@@ -65,7 +67,7 @@ fn read_edits_file<F: Shelf>(
 
 /// Reads `settings.toml`, `classes.csv`, `source.csv` and `edits.csv`, in this order, each parsed before the next is read. No
 /// file changes. A failed read is answered only where the shelf's count of faults rose, and its name is then that of the last
-/// failed call.
+/// failed call; where anything else is answered, no read failed.
 pub fn read_edit_input<F: Shelf>(alloc: Global, shelf: &mut F) -> Result<EditInput, EditInputFault>
     ensures kept { Told (F.files shelf.old) (F.files shelf.new) SameFiles }
     ensures ok { IfOk result (λ given. IfSome (F.files shelf.old) (λ files. edit_input_in None files ≡ Ok ((given.input.settings, given.input.problem), given.edits.items))) }
@@ -74,6 +76,7 @@ pub fn read_edit_input<F: Shelf>(alloc: Global, shelf: &mut F) -> Result<EditInp
     ensures err { IfErr result (λ fault. IfSome (F.files shelf.old) (λ files. RefusesEdits edit_input_in files fault)) }
     ensures later { F.faults shelf.old ≤ F.faults shelf.new }
     ensures cause { IfErr result (FailsIn edit_names (F.faults shelf.old) (F.faults shelf.new) (F.last_failed shelf.new)) }
+    ensures stays { ¬ IsErrAnd result IsReadFault → NoneFailed (F.faults shelf.old) (F.faults shelf.new) (F.last_failed shelf.old) (F.last_failed shelf.new) }
 {
     let input = match read_problem(alloc, shelf, FileName::SourceCsv) {
         Ok(input) => input,

@@ -1,9 +1,10 @@
 //! The problem of a year's files.
 
-ghost use Rattle.std.specs.Prelude.{◌≡◌, ◌≤◌, All, IfErr, IfOk, IfSome, None, Ok};
+ghost use Rattle.std.specs.Prelude.{◌≡◌, ◌≤◌, All, IfErr, IfOk, IfSome, IsErrAnd, None, Ok};
+ghost use Rattle.sut_outside.specs.Causes.{NoneFailed};
 ghost use Rattle.sut_outside.specs.Files.{Told, SameFiles};
 ghost use Rattle.sut_source.specs.SourceText.{HasGrade};
-ghost use Rattle.sut_input.specs.Reads.{FailsAmong, FailsBy, GivesOk, Refuses};
+ghost use Rattle.sut_input.specs.Reads.{FailsAmong, FailsBy, GivesOk, IsReadFault, Refuses};
 ghost use Rattle.sut_input.specs.Inputs.{IsSource, class_fault, classes_in, problem_in, problem_names, settings_fault, settings_in, source_fault, source_in};
 
 use crate::faults::InputFault;
@@ -55,6 +56,7 @@ fn read_settings_file<F: Shelf>(alloc: Global, shelf: &mut F) -> Result<Settings
     ensures err { IfErr result (λ fault. IfSome (F.files shelf.old) (λ files. Refuses settings_in files fault)) }
     ensures later { F.faults shelf.old ≤ F.faults shelf.new }
     ensures cause { IfErr result (FailsBy FileName.SettingsToml (F.faults shelf.old) (F.faults shelf.new) (F.last_failed shelf.new)) }
+    ensures stays { ¬ IsErrAnd result IsReadFault → NoneFailed (F.faults shelf.old) (F.faults shelf.new) (F.last_failed shelf.old) (F.last_failed shelf.new) }
 {
     let bytes = match read_file(shelf, FileName::SettingsToml) {
         Ok(bytes) => bytes,
@@ -66,12 +68,14 @@ fn read_settings_file<F: Shelf>(alloc: Global, shelf: &mut F) -> Result<Settings
     }
 }
 
-fn read_classes_file<F: Shelf>(alloc: Global, shelf: &mut F) -> Result<Classes, InputFault>
+/// Reads `classes.csv` alone. No file changes.
+pub fn read_classes_file<F: Shelf>(alloc: Global, shelf: &mut F) -> Result<Classes, InputFault>
     ensures kept { Told (F.files shelf.old) (F.files shelf.new) SameFiles }
     ensures ok { IfOk result (λ classes. IfSome (F.files shelf.old) (λ files. GivesOk classes_in files classes)) }
     ensures err { IfErr result (λ fault. IfSome (F.files shelf.old) (λ files. Refuses classes_in files fault)) }
     ensures later { F.faults shelf.old ≤ F.faults shelf.new }
     ensures cause { IfErr result (FailsBy FileName.ClassesCsv (F.faults shelf.old) (F.faults shelf.new) (F.last_failed shelf.new)) }
+    ensures stays { ¬ IsErrAnd result IsReadFault → NoneFailed (F.faults shelf.old) (F.faults shelf.new) (F.last_failed shelf.old) (F.last_failed shelf.new) }
 {
     let bytes = match read_file(shelf, FileName::ClassesCsv) {
         Ok(bytes) => bytes,
@@ -96,6 +100,7 @@ fn read_source_file<F: Shelf>(
     ensures err { IfErr result (λ fault. IfSome (F.files shelf.old) (λ files. Refuses (source_in name settings.now classes) files fault)) }
     ensures later { F.faults shelf.old ≤ F.faults shelf.new }
     ensures cause { IfErr result (FailsBy name (F.faults shelf.old) (F.faults shelf.new) (F.last_failed shelf.new)) }
+    ensures stays { ¬ IsErrAnd result IsReadFault → NoneFailed (F.faults shelf.old) (F.faults shelf.new) (F.last_failed shelf.old) (F.last_failed shelf.new) }
 {
     let bytes = match read_file(shelf, name) {
         Ok(bytes) => bytes,
@@ -108,7 +113,8 @@ fn read_source_file<F: Shelf>(
 }
 
 /// Reads `settings.toml`, `classes.csv` and the source that stands under this name, in this order. No file changes. A failed
-/// read is answered only where the shelf's count of faults rose, and its name is then that of the last failed call.
+/// read is answered only where the shelf's count of faults rose, and its name is then that of the last failed call; where
+/// anything else is answered, no read failed.
 pub fn read_problem<F: Shelf>(
     alloc: Global,
     shelf: &mut F,
@@ -121,6 +127,7 @@ pub fn read_problem<F: Shelf>(
     ensures err { IfErr result (λ fault. IfSome (F.files shelf.old) (λ files. Refuses (problem_in source) files fault)) }
     ensures later { F.faults shelf.old ≤ F.faults shelf.new }
     ensures cause { IfErr result (FailsAmong (problem_names source) (F.faults shelf.old) (F.faults shelf.new) (F.last_failed shelf.new)) }
+    ensures stays { ¬ IsErrAnd result IsReadFault → NoneFailed (F.faults shelf.old) (F.faults shelf.new) (F.last_failed shelf.old) (F.last_failed shelf.new) }
 {
     let settings = match read_settings_file(alloc, shelf) {
         Ok(settings) => settings,

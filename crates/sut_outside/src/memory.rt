@@ -1,11 +1,11 @@
 //! Shelves in memory.
-ghost use Rattle.std.specs.Prelude.{◌≡◌, ◌≢◌, ◌↔◌, ◌+◌, ◌-◌, ◌^◌, ◌≤◌, ◌<◌, ◌++◌, [], min, take, length, Contains, Some, None, IfSome, IfOk, OnOk, OnErr, IsErrOf, IsTrue, MatchOption, vec_len, vec_capacity};
+ghost use Rattle.std.specs.Prelude.{◌≡◌, ◌≢◌, ◌↔◌, ◌⊎◌, ◌+◌, ◌-◌, ◌^◌, ◌≤◌, ◌<◌, ◌++◌, [], min, take, length, Contains, Some, None, IfSome, IfOk, OnOk, OnErr, IsErrOf, IsTrue, MatchOption, vec_len, vec_capacity};
 ghost use Rattle.sut_outside.specs.declared.shelf.ShelfError.TheVariants.{Failed};
 ghost use Rattle.sut_outside.specs.Files.{SameFiles, SameOtherFiles, Reads, Writes, Told};
-ghost use Rattle.sut_outside.specs.Causes.{HasCause, NamesFault};
+ghost use Rattle.sut_outside.specs.Causes.{HasCause, NamesFault, OneMore};
 ghost use Rattle.sut_outside.specs.Stored.{stored};
 ghost use Rattle.sut_outside.specs.Numbered.{FailsNext};
-ghost use Rattle.sut_outside.specs.Memory.{failing_calls, calls_made, torn_length, torn};
+ghost use Rattle.sut_outside.specs.Memory.{TornGrows, failing_calls, calls_made, torn_length, torn};
 
 use crate::stored::{copy_in, copy_out, show};
 use crate::{FileName, Shelf, ShelfError};
@@ -13,7 +13,8 @@ use no_memory::NoMemory;
 use std::alloc::Global;
 use std::collections::HashMap;
 
-/// A shelf in memory that fails those of its reads and writes that have the listed numbers, counted together from 1.
+/// A shelf in memory that fails those of its reads and writes that have the listed numbers, counted together from 1. Each
+/// failure is one more fault, up to 2^64 - 1, and nothing else is.
 pub struct MemoryShelf {
     alloc: Global,
     files: HashMap<FileName, Vec<u8>>,
@@ -121,6 +122,7 @@ impl Shelf for MemoryShelf {
 
     ghost faults = { λ shelf. shelf.faults };
 
+    /// Fails exactly where this call has a listed number.
     fn read(&mut self, name: FileName) -> Result<Vec<u8>, ShelfError>
         ensures kept { Told (⟦<MemoryShelf as Shelf>⟧.files self.old) (⟦<MemoryShelf as Shelf>⟧.files self.new) SameFiles }
         ensures answer { IfSome (⟦<MemoryShelf as Shelf>⟧.files self.old) (λ files. Reads files name result) }
@@ -128,6 +130,7 @@ impl Shelf for MemoryShelf {
         ensures named { NamesFault name result (⟦<MemoryShelf as Shelf>⟧.last_failed self.old) (⟦<MemoryShelf as Shelf>⟧.last_failed self.new) }
         ensures fails { IsErrOf result ShelfError.Failed ↔ FailsNext (failing_calls self.old) (calls_made self.old) }
         ensures counted { calls_made self.new ≡ min (calls_made self.old + 1) (2 ^ 64 - 1) }
+        ensures count { IsErrOf result ShelfError.Failed → OneMore (⟦<MemoryShelf as Shelf>⟧.faults self.old) (⟦<MemoryShelf as Shelf>⟧.faults self.new) }
         ensures fail { failing_calls self.new ≡ failing_calls self.old }
         ensures keep { torn_length self.new ≡ torn_length self.old }
     {
@@ -139,6 +142,8 @@ impl Shelf for MemoryShelf {
         copy_out(self.alloc, &self.files, name)
     }
 
+    /// Fails only where this call has a listed number. Such a call never succeeds, and answers want of memory, which is no fault,
+    /// only where it leaves some bytes under the name or adds the name.
     fn write(&mut self, name: FileName, bytes: &[u8]) -> Result<(), ShelfError>
         ensures written { Told (⟦<MemoryShelf as Shelf>⟧.files self.old) (⟦<MemoryShelf as Shelf>⟧.files self.new) (Writes name bytes.now result) }
         ensures missing { result ≢ Err ShelfError.Missing }
@@ -147,8 +152,12 @@ impl Shelf for MemoryShelf {
         ensures named { NamesFault name result (⟦<MemoryShelf as Shelf>⟧.last_failed self.old) (⟦<MemoryShelf as Shelf>⟧.last_failed self.new) }
         ensures fails { IsErrOf result ShelfError.Failed → FailsNext (failing_calls self.old) (calls_made self.old) }
         ensures succeeds { OnOk result (¬ FailsNext (failing_calls self.old) (calls_made self.old)) }
+        ensures exact { torn_length self.old ≡ None → (IsErrOf result ShelfError.Failed ↔ FailsNext (failing_calls self.old) (calls_made self.old)) }
+        ensures stops { FailsNext (failing_calls self.old) (calls_made self.old) → IsErrOf result ShelfError.Failed ⊎ IsErrOf result ShelfError.NoMemory }
+        ensures wants { IsErrOf result ShelfError.NoMemory → FailsNext (failing_calls self.old) (calls_made self.old) → IfSome (⟦<MemoryShelf as Shelf>⟧.files self.old) (λ files. TornGrows (torn_length self.old) bytes.now (files name)) }
         ensures left { IsErrOf result ShelfError.Failed → Told (⟦<MemoryShelf as Shelf>⟧.files self.old) (⟦<MemoryShelf as Shelf>⟧.files self.new) (λ old new. new name ≡ torn (torn_length self.old) bytes.now (old name)) }
         ensures counted { calls_made self.new ≡ min (calls_made self.old + 1) (2 ^ 64 - 1) }
+        ensures count { IsErrOf result ShelfError.Failed → OneMore (⟦<MemoryShelf as Shelf>⟧.faults self.old) (⟦<MemoryShelf as Shelf>⟧.faults self.new) }
         ensures fail { failing_calls self.new ≡ failing_calls self.old }
         ensures keep { torn_length self.new ≡ torn_length self.old }
     {

@@ -2,7 +2,7 @@
 ghost use Rattle.std.specs.Prelude.{◌≡◌, ◌≢◌, ◌⊎◌, ◌+◌, ◌-◌, ◌^◌, ◌≤◌, ◌<◌, ◌++◌, [], min, take, length, Some, IfOk, OnOk, IsErrOf, IsTrue, ◌↔◌, vec_len, vec_capacity};
 ghost use Rattle.sut_outside.specs.declared.shelf.SinkError.TheVariants.{Failed};
 ghost use Rattle.sut_outside.specs.Files.{Told};
-ghost use Rattle.sut_outside.specs.Causes.{HasCause};
+ghost use Rattle.sut_outside.specs.Causes.{HasCause, OneMore};
 ghost use Rattle.sut_outside.specs.Sent.{Puts, AppendsPart};
 ghost use Rattle.sut_outside.specs.Numbered.{FailsNext};
 
@@ -26,7 +26,8 @@ fn append_within(text: &mut Vec<u8>, room: usize, piece: &[u8]) -> bool
     text.extend_from_slice(&piece[..count]).is_ok() && count == piece.len() && text.len() <= room
 }
 
-/// A sink in memory that takes `room` bytes and fails the listed puts, counted from 1.
+/// A sink in memory that takes `room` bytes and fails the listed puts, counted from 1. Each failure is one more fault, up to
+/// 2^64 - 1, and nothing else is.
 pub struct MemorySink {
     text: Vec<u8>,
     room: usize,
@@ -85,14 +86,17 @@ impl Sink for MemorySink {
 
     ghost faults = { λ sink. sink.faults };
 
+    /// Fails exactly where this put has a listed number, or the piece doesn't fit whole.
     #[tactic(auto, using(crate::proofs::Parts::appended_parts))]
     fn put(&mut self, piece: &[u8]) -> Result<(), SinkError>
         ensures sent { Told (⟦<MemorySink as Sink>⟧.sent self.old) (⟦<MemorySink as Sink>⟧.sent self.new) (Puts piece.now result) }
         ensures cause { HasCause (⟦<MemorySink as Sink>⟧.faults self.old) (⟦<MemorySink as Sink>⟧.faults self.new) result Failed }
         ensures fails { IsErrOf result SinkError.Failed → FailsNext (failing_puts self.old) (puts_made self.old) ⊎ (sink_room self.old < length (sent_bytes self.old) + length piece.now) }
         ensures succeeds { OnOk result ((¬ FailsNext (failing_puts self.old) (puts_made self.old)) × (length (sent_bytes self.old) + length piece.now ≤ sink_room self.old)) }
+        ensures exact { IsErrOf result SinkError.Failed ↔ (FailsNext (failing_puts self.old) (puts_made self.old) ⊎ (sink_room self.old < length (sent_bytes self.old) + length piece.now)) }
         ensures left { IsErrOf result SinkError.Failed → (FailsNext (failing_puts self.old) (puts_made self.old) × (sent_bytes self.new ≡ sent_bytes self.old)) ⊎ (sent_bytes self.new ≡ sent_bytes self.old ++ take (sink_room self.old - length (sent_bytes self.old)) piece.now) }
         ensures counted { puts_made self.new ≡ min (puts_made self.old + 1) (2 ^ 64 - 1) }
+        ensures count { IsErrOf result SinkError.Failed → OneMore (⟦<MemorySink as Sink>⟧.faults self.old) (⟦<MemorySink as Sink>⟧.faults self.new) }
         ensures room { sink_room self.new ≡ sink_room self.old }
         ensures fail { failing_puts self.new ≡ failing_puts self.old }
     {

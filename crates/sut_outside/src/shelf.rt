@@ -33,7 +33,8 @@ pub enum SinkError {
     Failed,
 }
 
-/// A shelf holds files by name. A real folder doesn't tell what it holds, a shelf in memory does.
+/// A shelf holds files by name. A real folder doesn't tell what it holds, a shelf in memory does. Where a call answers anything
+/// but a fault of the device, its count of faults and the name of its last failed call are as they were.
 pub trait Shelf {
     /// The files, where they are told.
     ghost files: { Self → Option Files };
@@ -41,7 +42,7 @@ pub trait Shelf {
     /// The name of the last failed call.
     ghost last_failed: { Self → Option FileName };
 
-    /// How many faults there were, a number that never falls.
+    /// How many faults there were, a number that never falls, and that changes only by a failed call.
     ghost faults: { Self → ℕ };
 
     /// Reads a whole file.
@@ -60,12 +61,13 @@ pub trait Shelf {
         ensures named { NamesFault name result (last_failed self.old) (last_failed self.new) };
 }
 
-/// A sink takes printed bytes. A real terminal doesn't tell what went out, a sink in memory does.
+/// A sink takes printed bytes. A real terminal doesn't tell what went out, a sink in memory does. Where a put doesn't fail, the
+/// count of faults is as it was.
 pub trait Sink {
     /// The bytes that went out, where they are told.
     ghost sent: { Self → Option (List ℕ) };
 
-    /// How many faults there were, a number that never falls.
+    /// How many faults there were, a number that never falls, and that changes only by a failed put.
     ghost faults: { Self → ℕ };
 
     /// Sends a piece. After an error a part of it from its front went out.

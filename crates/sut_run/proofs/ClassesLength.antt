@@ -114,13 +114,14 @@ module _ (cs : ClassLists) (kept : IsClasses cs) where
 
   lines-short : All IsShort (class_lines cs)
   lines-short =
-      All-append IsShort (map (plain_line axis.Margin) cs.margins) _ (plains-short axis.Margin)
-      (All-append IsShort (map (plain_line axis.ProductGroup) cs.product_groups) _ (plains-short axis.ProductGroup)
-      (All-append IsShort (map (product_line cs) cs.products) _ products-short
-      (All-append IsShort (map (plain_line axis.IndustryGroup) cs.industry_groups) _ (plains-short axis.IndustryGroup)
-      (All-append IsShort (map (industry_line cs) cs.industries) _ industries-short
-      (All-append IsShort (map (plain_line axis.Final) cs.finals) _ (plains-short axis.Final)
-      (All-append IsShort (map (plain_line axis.Item) cs.items) (map (plain_line axis.Tax) cs.taxes) (plains-short axis.Item) (plains-short axis.Tax)))))))
+      All-append IsShort _ (map (plain_line axis.Tax) cs.taxes)
+      (All-append IsShort _ (map (plain_line axis.Item) cs.items)
+      (All-append IsShort _ (map (plain_line axis.Final) cs.finals)
+      (All-append IsShort _ (map (industry_line cs) cs.industries)
+      (All-append IsShort _ (map (plain_line axis.IndustryGroup) cs.industry_groups)
+      (All-append IsShort _ (map (product_line cs) cs.products)
+      (All-append IsShort (map (plain_line axis.Margin) cs.margins) (map (plain_line axis.ProductGroup) cs.product_groups) (plains-short axis.Margin) (plains-short axis.ProductGroup))
+      products-short) (plains-short axis.IndustryGroup)) industries-short) (plains-short axis.Final)) (plains-short axis.Item)) (plains-short axis.Tax)
 
   few-lines : length (class_lines cs) ≤ 924
   few-lines =

@@ -113,6 +113,10 @@ abbrev pub IsRefusal : Status → Type 0
 IsRefusal Balanced = ⊥
 IsRefusal Generated = ⊥
 IsRefusal Migrated = ⊥
+IsRefusal Published = ⊥
+IsRefusal Ranged = ⊥
+IsRefusal Series = ⊥
+IsRefusal Shared = ⊥
 IsRefusal Infeasible = ⊥
 IsRefusal SinkFault = ⊥
 IsRefusal Usage = ⊥

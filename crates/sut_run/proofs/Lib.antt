@@ -3,6 +3,7 @@ pub mod Made
 pub mod Words
 pub mod Texts
 pub mod Delivered
+pub mod Printed
 pub mod Headlined
 pub mod EditDelivered
 pub mod EditHeadlined

@@ -1,5 +1,5 @@
 -- The delivery of classes in format 2.
-use Rattle.std.proofs.Common.{◌≡◌, ◌∙◌, ℕ, zero, suc, List, ◌∷◌, [], Option, None, Some, Ok, Contains, IfSome, map, refl, ap, subst, arith}
+use Rattle.std.proofs.Common.{◌≡◌, ◌∙◌, ℕ, zero, suc, List, ◌∷◌, [], Option, None, Some, Ok, Contains, IfSome, map, refl, ap, sym, subst, arith}
 use Rattle.sut_outside.specs.declared.names.FileName.{FileName}
 use Rattle.sut_outside.specs.declared.names.FileName.TheVariants.{ClassesCsv, Classes2Csv}
 use Rattle.sut_outside.specs.Files.{Files, SameFiles, Told}
@@ -36,7 +36,7 @@ classes-given seats cs (Some files) h = rw h refl
 -- the one name that is read
 pub fails-among : (name : FileName) (f : InputFault) (before now : ℕ) (last : Option FileName) → FailsBy name before now last f → FailsAmong (name ∷ []) before now last f
 fails-among name fault.NoMemory before now last h = tt
-fails-among name (fault.ReadFault n) before now last h = (h.0, h.1, (0, omega arith, h.2))
+fails-among name (fault.ReadFault n) before now last h = (h.0, h.1, (0, omega arith, sym h.2))
 fails-among name (fault.Missing n) before now last h = tt
 fails-among name (fault.TooLong n) before now last h = tt
 fails-among name (fault.BadSettings e) before now last h = tt

@@ -1,5 +1,5 @@
 -- What each answer of a run says of its input, and what stands after it.
-use Rattle.std.specs.Prelude.{◌≡◌, ◌⊎◌, ℕ, List, Option, Some, None, Err, IsOk, IsOkAnd, ⊤}
+use Rattle.std.specs.Prelude.{◌≡◌, ◌⊎◌, ℕ, List, Option, Some, None, Ok, Err, IfSome, IsOk, IsOkAnd, ⊤}
 use Rattle.sut_outside.specs.declared.names.FileName.{FileName}
 use Rattle.sut_outside.specs.Files.{Files, SameFiles, Told}
 use Rattle.sut_outside.specs.Deliveries.{WrittenAll, StoppedAt}
@@ -7,7 +7,7 @@ use Rattle.sut_outside.specs.Sent.{AppendsPart}
 use Rattle.sut_status.specs.declared.statuses.Status.{Status}
 use Rattle.sut_status.specs.declared.statuses.Status.TheVariants.{Balanced, Generated, Migrated, Published, Ranged, Series, Shared, NoMemory, Usage, Infeasible, BadSettings, BadClasses, BadSource, BadEdits, BadTable, NotAdmissible, BadAsks, BadDismiss, TooManyPairs, BadYear, ReadFault, WriteFault, Missing, SinkFault, TooLong}
 use Rattle.sut_run.specs.declared.commands.Command.{Command}
-use Rattle.sut_run.specs.Inputs.{input_of}
+use Rattle.sut_run.specs.Inputs.{Given, input_of}
 use Rattle.sut_review.specs.Seats.{SeatFacts}
 use Rattle.sut_run.specs.Deliveries.{Delivery, Gives}
 use Rattle.sut_run.specs.Steps.{SameSent, Sends}
@@ -87,3 +87,37 @@ Stands seats c Series before after old new = DeliversRight seats c Series old ne
 Stands seats c Shared before after old new = DeliversRight seats c Shared old new before after
 Stands seats c Infeasible before after old new = DeliversRight seats c Infeasible old new before after
 Stands seats c refused before after old new = LeavesAll old new before after
+
+-- the lines of a right delivery with this end, for an input that is the one at entry where the files are told
+pub record AreLines (seats : List SeatFacts) (c : Command) (held : Option Files) (ends : Status) (lines : List ℕ) : Type 0 where
+  pub input : Given
+  pub delivery : Delivery
+  pub given : IfSome held (λ files. input_of seats c None files ≡ Ok input)
+  pub gives : Gives seats input ends delivery
+  pub printed : lines ≡ delivery.lines
+
+-- lines with this property went out, or a part of them from their front
+pub record PrintsAll (L : List ℕ → Type 0) (old new : List ℕ) : Type 0 where
+  pub lines : List ℕ
+  pub spelled : L lines
+  pub sent : Sends lines old new
+
+pub record PrintsPart (L : Status → List ℕ → Type 0) (old new : List ℕ) : Type 0 where
+  pub ends : Status
+  pub lines : List ℕ
+  pub spelled : L ends lines
+  pub part : AppendsPart lines old new
+
+-- What went out, by the answer: all lines of a run that was done, a part of the lines of one that would be done after a fault
+-- at the put, and else nothing.
+abbrev pub Prints : (Status → List ℕ → Type 0) → Status → List ℕ → List ℕ → Type 0
+Prints L Balanced old new = PrintsAll (L Balanced) old new
+Prints L Generated old new = PrintsAll (L Generated) old new
+Prints L Migrated old new = PrintsAll (L Migrated) old new
+Prints L Published old new = PrintsAll (L Published) old new
+Prints L Ranged old new = PrintsAll (L Ranged) old new
+Prints L Series old new = PrintsAll (L Series) old new
+Prints L Shared old new = PrintsAll (L Shared) old new
+Prints L Infeasible old new = PrintsAll (L Infeasible) old new
+Prints L SinkFault old new = PrintsPart L old new
+Prints L _ old new = SameSent old new

@@ -18,6 +18,12 @@ abbrev pub IfWriteFault : Status → (FileName → Type 0) → Type 0
 IfWriteFault (WriteFault name) P = P name
 IfWriteFault _ P = ⊤
 
+-- a failed read or a failed write is answered
+abbrev pub IsShelfFault : Status → Type 0
+IsShelfFault (ReadFault name) = ⊤
+IsShelfFault (WriteFault name) = ⊤
+IsShelfFault _ = ⊥
+
 -- a failed write is answered only where the count rose, with the name of the last failed call
 abbrev pub FailsWriting : ℕ → ℕ → Option FileName → Status → Type 0
 FailsWriting before now last answer = IfWriteFault answer (λ name. Rose before now × (last ≡ Some name))
@@ -49,6 +55,13 @@ SameSent old new = new ≡ old
 -- these lines went out
 abbrev pub Sends : List ℕ → List ℕ → List ℕ → Type 0
 Sends lines old new = new ≡ old ++ lines
+
+-- What went out of a delivery of these lines: all of them, a part of them after a fault at the put, or nothing where a write
+-- stopped it.
+abbrev pub PutsLines : List ℕ → {T : Type 0} → Result T Status → List ℕ → List ℕ → Type 0
+PutsLines lines (Ok _) old new = Sends lines old new
+PutsLines lines (Err SinkFault) old new = AppendsPart lines old new
+PutsLines lines (Err _) old new = SameSent old new
 
 -- What a delivery leaves. Where a write failed or wanted memory, the writes stopped there and nothing was printed. Where the
 -- put failed, all is written and a part of the lines went out. Else all is written and printed.

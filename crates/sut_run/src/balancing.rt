@@ -1,8 +1,8 @@
 //! The command `balance`.
 
-ghost use Rattle.std.specs.Prelude.{◌≡◌, ◌↔◌, ◌<◌, All, IfOk, IfSome, IsTrue, Contains, map};
+ghost use Rattle.std.specs.Prelude.{◌≡◌, ◌≢◌, ◌↔◌, ◌<◌, All, IfOk, IfSome, IsTrue, Contains, map};
 ghost use Rattle.sut_outside.specs.Files.{Told};
-ghost use Rattle.sut_outside.specs.Causes.{Rose};
+ghost use Rattle.sut_outside.specs.Causes.{NoneFailed, Rose};
 ghost use Rattle.sut_tables.specs.Costs.{IsImpossible};
 ghost use Rattle.sut_cert.specs.Right.{IsRight, is_infeasible};
 ghost use Rattle.sut_review.specs.Seats.{new_seat};
@@ -10,9 +10,9 @@ ghost use Rattle.sut_run.specs.Commands.{read_names, written_names};
 ghost use Rattle.sut_run.specs.Inputs.{refused};
 ghost use Rattle.sut_run.specs.Outputs.{texts_in};
 ghost use Rattle.sut_run.specs.Prepared.{IsPrepared};
-ghost use Rattle.sut_run.specs.Ends.{AnswersInput, Stands};
+ghost use Rattle.sut_run.specs.Ends.{AnswersInput, AreLines, Prints, Stands};
 ghost use Rattle.sut_run.specs.Headlines.{Headline, WritesCut, WritesLeast};
-ghost use Rattle.sut_run.specs.Steps.{IfReadFault, IfWriteFault};
+ghost use Rattle.sut_run.specs.Steps.{IfReadFault, IfWriteFault, IsShelfFault};
 
 use crate::commands::Command;
 use crate::outputs::{make, status_of};
@@ -99,6 +99,9 @@ pub(crate) fn run_balance<F: Shelf, K: Sink>(
     ensures read_fault { IfReadFault result (λ failed. Rose (F.faults shelf.old) (F.faults shelf.new) × (F.last_failed shelf.new ≡ Some failed) × Contains (read_names Command.Balance) failed) }
     ensures write_fault { IfWriteFault result (λ failed. Rose (F.faults shelf.old) (F.faults shelf.new) × (F.last_failed shelf.new ≡ Some failed) × Contains (written_names Command.Balance) failed) }
     ensures sink_fault { result ≡ Status.SinkFault → Rose (K.faults out.old) (K.faults out.new) }
+    ensures shelf_stays { ¬ IsShelfFault result → NoneFailed (F.faults shelf.old) (F.faults shelf.new) (F.last_failed shelf.old) (F.last_failed shelf.new) }
+    ensures sink_stays { result ≢ Status.SinkFault → K.faults out.new ≡ K.faults out.old }
+    ensures printed { Told (K.sent out.old) (K.sent out.new) (Prints (AreLines (map (λ b. new_seat (name b) (rule b)) reviewers.items) Command.Balance (F.files shelf.old)) result) }
     ensures balanced { result ≡ Status.Balanced → Told (F.files shelf.old) (F.files shelf.new) (Headline (map (λ b. new_seat (name b) (rule b)) reviewers.items) Command.Balance WritesLeast) }
     ensures infeasible { result ≡ Status.Infeasible → Told (F.files shelf.old) (F.files shelf.new) (Headline (map (λ b. new_seat (name b) (rule b)) reviewers.items) Command.Balance WritesCut) }
     ensures migrated { (result ≡ Status.Migrated) → ⊥ }

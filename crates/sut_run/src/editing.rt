@@ -1,8 +1,8 @@
 //! The command `edit`.
 
-ghost use Rattle.std.specs.Prelude.{◌≡◌, ◌++◌, ◌∷◌, All, Err, IfErr, IfOk, IfSome, OnOk, Some, Contains, map};
+ghost use Rattle.std.specs.Prelude.{◌≡◌, ◌≢◌, ◌++◌, ◌∷◌, All, Err, IfErr, IfOk, IfSome, OnOk, Some, Contains, map};
 ghost use Rattle.sut_outside.specs.Files.{Told};
-ghost use Rattle.sut_outside.specs.Causes.{Rose};
+ghost use Rattle.sut_outside.specs.Causes.{NoneFailed, Rose};
 ghost use Rattle.sut_cert.specs.Right.{IsRight};
 ghost use Rattle.sut_write.specs.Screen as screen;
 ghost use Rattle.sut_source.specs.SourceText.{HasGrade, source_text};
@@ -15,9 +15,9 @@ ghost use Rattle.sut_run.specs.Deliveries.{ReadsBack, SpellsSource, answer_files
 ghost use Rattle.sut_run.specs.Inputs.{edit_stopped, edits_refused};
 ghost use Rattle.sut_run.specs.Outputs.{review_in, texts_in};
 ghost use Rattle.sut_run.specs.Prepared.{PreparesEdit};
-ghost use Rattle.sut_run.specs.Ends.{AnswersInput, Stands};
+ghost use Rattle.sut_run.specs.Ends.{AnswersInput, AreLines, Prints, Stands};
 ghost use Rattle.sut_run.specs.Headlines.{Headline, WritesCut, WritesLeast};
-ghost use Rattle.sut_run.specs.Steps.{IfReadFault, IfWriteFault};
+ghost use Rattle.sut_run.specs.Steps.{IfReadFault, IfWriteFault, IsShelfFault};
 
 use crate::balancing::{Prepared, refused};
 use crate::commands::Command;
@@ -176,6 +176,9 @@ pub(crate) fn run_edit<F: Shelf, K: Sink>(
     ensures read_fault { IfReadFault result (λ failed. Rose (F.faults shelf.old) (F.faults shelf.new) × (F.last_failed shelf.new ≡ Some failed) × Contains (read_names Command.Edit) failed) }
     ensures write_fault { IfWriteFault result (λ failed. Rose (F.faults shelf.old) (F.faults shelf.new) × (F.last_failed shelf.new ≡ Some failed) × Contains (written_names Command.Edit) failed) }
     ensures sink_fault { result ≡ Status.SinkFault → Rose (K.faults out.old) (K.faults out.new) }
+    ensures shelf_stays { ¬ IsShelfFault result → NoneFailed (F.faults shelf.old) (F.faults shelf.new) (F.last_failed shelf.old) (F.last_failed shelf.new) }
+    ensures sink_stays { result ≢ Status.SinkFault → K.faults out.new ≡ K.faults out.old }
+    ensures printed { Told (K.sent out.old) (K.sent out.new) (Prints (AreLines (map (λ b. new_seat (name b) (rule b)) reviewers.items) Command.Edit (F.files shelf.old)) result) }
     ensures balanced { result ≡ Status.Balanced → Told (F.files shelf.old) (F.files shelf.new) (Headline (map (λ b. new_seat (name b) (rule b)) reviewers.items) Command.Edit WritesLeast) }
     ensures infeasible { result ≡ Status.Infeasible → Told (F.files shelf.old) (F.files shelf.new) (Headline (map (λ b. new_seat (name b) (rule b)) reviewers.items) Command.Edit WritesCut) }
     ensures migrated { (result ≡ Status.Migrated) → ⊥ }

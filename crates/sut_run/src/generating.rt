@@ -1,8 +1,8 @@
 //! The command `generate`.
 
-ghost use Rattle.std.specs.Prelude.{◌≡◌, true, IfOk, IfSome, IfErr, Ok, Some, Contains, List};
+ghost use Rattle.std.specs.Prelude.{◌≡◌, ◌≢◌, true, IfOk, IfSome, IfErr, Ok, Some, Contains, List};
 ghost use Rattle.sut_outside.specs.Files.{Told};
-ghost use Rattle.sut_outside.specs.Causes.{Rose};
+ghost use Rattle.sut_outside.specs.Causes.{NoneFailed, Rose};
 ghost use Rattle.sut_settings.specs.SettingsFile.{settings_of};
 ghost use Rattle.sut_classes.specs.ClassFile.{classes_of};
 ghost use Rattle.sut_generate.specs.MadeFiles.{AreMade};
@@ -11,9 +11,9 @@ ghost use Rattle.generated_laws.specs.MadeLists.{made_facts, made_lists};
 ghost use Rattle.sut_review.specs.Seats.{SeatFacts};
 ghost use Rattle.sut_run.specs.Commands.{read_names, written_names};
 ghost use Rattle.sut_run.specs.Deliveries.{IsMadeProblem, IsMadeYear, PrintsMade, made_files};
-ghost use Rattle.sut_run.specs.Ends.{AnswersInput, Stands};
+ghost use Rattle.sut_run.specs.Ends.{AnswersInput, AreLines, Prints, Stands};
 ghost use Rattle.sut_run.specs.Outputs.{texts_in};
-ghost use Rattle.sut_run.specs.Steps.{IfReadFault, IfWriteFault};
+ghost use Rattle.sut_run.specs.Steps.{IfReadFault, IfWriteFault, IsShelfFault};
 
 use crate::balancing::answer_to;
 use crate::commands::Command;
@@ -248,6 +248,9 @@ pub(crate) fn run_generate<F: Shelf, K: Sink>(
     ensures read_fault { IfReadFault result (λ failed. Rose (F.faults shelf.old) (F.faults shelf.new) × (F.last_failed shelf.new ≡ Some failed) × Contains (read_names (Command.Generate seed products industries)) failed) }
     ensures write_fault { IfWriteFault result (λ failed. Rose (F.faults shelf.old) (F.faults shelf.new) × (F.last_failed shelf.new ≡ Some failed) × Contains (written_names (Command.Generate seed products industries)) failed) }
     ensures sink_fault { result ≡ Status.SinkFault → Rose (K.faults out.old) (K.faults out.new) }
+    ensures shelf_stays { ¬ IsShelfFault result → NoneFailed (F.faults shelf.old) (F.faults shelf.new) (F.last_failed shelf.old) (F.last_failed shelf.new) }
+    ensures sink_stays { result ≢ Status.SinkFault → K.faults out.new ≡ K.faults out.old }
+    ensures printed { (seats : List SeatFacts) → Told (K.sent out.old) (K.sent out.new) (Prints (AreLines seats (Command.Generate seed products industries) (F.files shelf.old)) result) }
     ensures balanced { (result ≡ Status.Balanced) → ⊥ }
     ensures infeasible { (result ≡ Status.Infeasible) → ⊥ }
     ensures migrated { (result ≡ Status.Migrated) → ⊥ }

@@ -1,15 +1,15 @@
 //! The command `migrate`.
 
-ghost use Rattle.std.specs.Prelude.{◌≡◌, Ok, IfOk, IfSome, OnOk, Contains, List};
+ghost use Rattle.std.specs.Prelude.{◌≡◌, ◌≢◌, Ok, IfOk, IfSome, OnOk, Contains, List};
 ghost use Rattle.sut_outside.specs.Files.{Told};
-ghost use Rattle.sut_outside.specs.Causes.{Rose};
+ghost use Rattle.sut_outside.specs.Causes.{NoneFailed, Rose};
 ghost use Rattle.sut_review.specs.Seats.{SeatFacts};
 ghost use Rattle.sut_run.specs.Commands.{read_names, written_names};
 ghost use Rattle.sut_run.specs.Outputs.{texts_in};
 ghost use Rattle.sut_run.specs.Deliveries.{SpellsClasses, code_count, migrated_text, migration};
-ghost use Rattle.sut_run.specs.Ends.{AnswersInput, Stands};
+ghost use Rattle.sut_run.specs.Ends.{AnswersInput, AreLines, Prints, Stands};
 ghost use Rattle.sut_run.specs.Headlines.{WritesClasses};
-ghost use Rattle.sut_run.specs.Steps.{IfReadFault, IfWriteFault};
+ghost use Rattle.sut_run.specs.Steps.{IfReadFault, IfWriteFault, IsShelfFault};
 
 use crate::balancing::refused;
 use crate::commands::Command;
@@ -67,6 +67,9 @@ pub(crate) fn run_migrate<F: Shelf, K: Sink>(alloc: Global, shelf: &mut F, out: 
     ensures read_fault { IfReadFault result (λ failed. Rose (F.faults shelf.old) (F.faults shelf.new) × (F.last_failed shelf.new ≡ Some failed) × Contains (read_names Command.Migrate) failed) }
     ensures write_fault { IfWriteFault result (λ failed. Rose (F.faults shelf.old) (F.faults shelf.new) × (F.last_failed shelf.new ≡ Some failed) × Contains (written_names Command.Migrate) failed) }
     ensures sink_fault { result ≡ Status.SinkFault → Rose (K.faults out.old) (K.faults out.new) }
+    ensures shelf_stays { ¬ IsShelfFault result → NoneFailed (F.faults shelf.old) (F.faults shelf.new) (F.last_failed shelf.old) (F.last_failed shelf.new) }
+    ensures sink_stays { result ≢ Status.SinkFault → K.faults out.new ≡ K.faults out.old }
+    ensures printed { (seats : List SeatFacts) → Told (K.sent out.old) (K.sent out.new) (Prints (AreLines seats Command.Migrate (F.files shelf.old)) result) }
     ensures migrated { result ≡ Status.Migrated → Told (F.files shelf.old) (F.files shelf.new) WritesClasses }
     ensures balanced { (result ≡ Status.Balanced) → ⊥ }
     ensures infeasible { (result ≡ Status.Infeasible) → ⊥ }

@@ -1,14 +1,14 @@
 //! The run of a command.
 
-ghost use Rattle.std.specs.Prelude.{◌≡◌, ◌⊎◌, ◌↔◌, None, Some, All, IsOk, IfSome, Contains, map, string_bytes};
+ghost use Rattle.std.specs.Prelude.{◌≡◌, ◌≢◌, ◌⊎◌, ◌↔◌, None, Some, All, IsOk, IfSome, Contains, map, string_bytes};
 ghost use Rattle.sut_outside.specs.Files.{Told};
-ghost use Rattle.sut_outside.specs.Causes.{Rose};
+ghost use Rattle.sut_outside.specs.Causes.{NoneFailed, Rose};
 ghost use Rattle.sut_review.specs.Seats.{new_seat};
 ghost use Rattle.sut_run.specs.Commands.{command_of, read_names, written_names};
 ghost use Rattle.sut_run.specs.Inputs.{input_of};
-ghost use Rattle.sut_run.specs.Ends.{AnswersInput, IsDone, LeavesAll, Stands};
+ghost use Rattle.sut_run.specs.Ends.{AnswersInput, AreLines, IsDone, LeavesAll, Prints, Stands};
 ghost use Rattle.sut_run.specs.Headlines.{Headline, IsChecked, MayBeInfeasible, WritesClasses, WritesCut, WritesLeast};
-ghost use Rattle.sut_run.specs.Steps.{IfReadFault, IfWriteFault};
+ghost use Rattle.sut_run.specs.Steps.{IfReadFault, IfWriteFault, IsShelfFault};
 
 use crate::balancing::run_balance;
 use crate::commands::{Command, command_named};
@@ -44,7 +44,8 @@ use sut_status::Status;
 /// `migrate` reads `classes.csv` alone, in either format, writes the same classes in format 2 (`classes2.csv`), and prints
 /// how many codes there are on all axes. It shows nothing to reviewers.
 ///
-/// All texts are made before the first write; the first failure ends the run.
+/// All texts are made before the first write; the first failure ends the run, and is its answer: where that is neither a failed
+/// read nor a failed write, no call of the shelf failed, and where it is not `SinkFault`, no put.
 pub fn run<F: Shelf, K: Sink>(
     alloc: Global,
     words: &[String],
@@ -57,6 +58,7 @@ pub fn run<F: Shelf, K: Sink>(
     // The words are refused exactly where they name no command, and then nothing is done.
     ensures usage { (result ≡ Status.Usage) ↔ (command_of (map string_bytes words.now) ≡ None) }
     ensures unused { command_of (map string_bytes words.now) ≡ None → Told (F.files shelf.old) (F.files shelf.new) (λ old new. LeavesAll old new (K.sent out.old) (K.sent out.new)) }
+    ensures untouched { command_of (map string_bytes words.now) ≡ None → (shelf.new ≡ shelf.old) × (out.new ≡ out.old) }
 
     // What each answer says of the files at entry, and what stands after it.
     ensures input { IfSome (command_of (map string_bytes words.now)) (λ c. IfSome (F.files shelf.old) (λ files. AnswersInput (map (λ b. new_seat (name b) (rule b)) reviewers.items) c files result)) }
@@ -68,6 +70,13 @@ pub fn run<F: Shelf, K: Sink>(
     ensures write_fault { IfWriteFault result (λ failed. Rose (F.faults shelf.old) (F.faults shelf.new) × (F.last_failed shelf.new ≡ Some failed)
         × IfSome (command_of (map string_bytes words.now)) (λ c. Contains (written_names c) failed)) }
     ensures sink_fault { result ≡ Status.SinkFault → Rose (K.faults out.old) (K.faults out.new) }
+
+    // Where another answer is given, no call of the device failed.
+    ensures shelf_stays { ¬ IsShelfFault result → NoneFailed (F.faults shelf.old) (F.faults shelf.new) (F.last_failed shelf.old) (F.last_failed shelf.new) }
+    ensures sink_stays { result ≢ Status.SinkFault → K.faults out.new ≡ K.faults out.old }
+
+    // What went out, whether or not the shelf tells its files.
+    ensures printed { Told (K.sent out.old) (K.sent out.new) (Prints (λ ends lines. IfSome (command_of (map string_bytes words.now)) (λ c. AreLines (map (λ b. new_seat (name b) (rule b)) reviewers.items) c (F.files shelf.old) ends lines)) result) }
 
     // Where the input is given and no count rose, the run is done, or memory ran out.
     ensures complete { IfSome (command_of (map string_bytes words.now)) (λ c. IfSome (F.files shelf.old) (λ files.

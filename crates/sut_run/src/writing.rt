@@ -1,10 +1,10 @@
 //! The writing part: all texts are made before the first write.
 
-ghost use Rattle.std.specs.Prelude.{◌≡◌, ◌≤◌, ◌⊎◌, IfErr, MatchResult, Ok, Contains, map};
+ghost use Rattle.std.specs.Prelude.{◌≡◌, ◌≤◌, ◌⊎◌, IfErr, IsErrAnd, IsErrOf, MatchResult, Ok, Contains, map};
 ghost use Rattle.sut_outside.specs.Files.{Told, SameOtherFiles, Writes};
-ghost use Rattle.sut_outside.specs.Causes.{Rose};
+ghost use Rattle.sut_outside.specs.Causes.{NoneFailed, Rose};
 ghost use Rattle.sut_run.specs.Outputs.{texts_in};
-ghost use Rattle.sut_run.specs.Steps.{Delivered, FailsWriting, StopsDelivery, StopsWriting, WritesEnd};
+ghost use Rattle.sut_run.specs.Steps.{Delivered, FailsWriting, IsShelfFault, PutsLines, StopsDelivery, StopsWriting, WritesEnd};
 
 use sut_outside::{FileName, Shelf, ShelfError, Sink};
 use sut_status::Status;
@@ -28,6 +28,7 @@ fn write_file<F: Shelf>(shelf: &mut F, output: &Output) -> Result<(), Status>
     ensures stopped { IfErr result (λ stopped. (stopped ≡ Status.NoMemory) ⊎ (stopped ≡ Status.WriteFault output.now.name)) }
     ensures later { F.faults shelf.old ≤ F.faults shelf.new }
     ensures cause { IfErr result (FailsWriting (F.faults shelf.old) (F.faults shelf.new) (F.last_failed shelf.new)) }
+    ensures stays { ¬ IsErrAnd result IsShelfFault → NoneFailed (F.faults shelf.old) (F.faults shelf.new) (F.last_failed shelf.old) (F.last_failed shelf.new) }
 {
     match shelf.write(output.name, &output.text) {
         Ok(()) => Ok(()),
@@ -44,6 +45,7 @@ fn write_all<F: Shelf>(shelf: &mut F, outputs: &[Output]) -> Result<(), Status>
     ensures ends { Told (F.files shelf.old) (F.files shelf.new) (WritesEnd (texts_in outputs.now) result) }
     ensures later { F.faults shelf.old ≤ F.faults shelf.new }
     ensures cause { IfErr result (FailsWriting (F.faults shelf.old) (F.faults shelf.new) (F.last_failed shelf.new)) }
+    ensures stays { ¬ IsErrAnd result IsShelfFault → NoneFailed (F.faults shelf.old) (F.faults shelf.new) (F.last_failed shelf.old) (F.last_failed shelf.new) }
 {
     for output in outputs {
         match write_file(shelf, output) {
@@ -65,7 +67,10 @@ fn send<F: Shelf, K: Sink>(
     ensures stops { IfErr result (StopsDelivery (map (λ output. output.name) outputs.now)) }
     ensures later { F.faults shelf.old ≤ F.faults shelf.new }
     ensures cause { IfErr result (FailsWriting (F.faults shelf.old) (F.faults shelf.new) (F.last_failed shelf.new)) }
+    ensures stays { ¬ IsErrAnd result IsShelfFault → NoneFailed (F.faults shelf.old) (F.faults shelf.new) (F.last_failed shelf.old) (F.last_failed shelf.new) }
     ensures sink_fault { IfErr result (λ stopped. stopped ≡ Status.SinkFault → Rose (K.faults out.old) (K.faults out.new)) }
+    ensures sink_stays { ¬ IsErrOf result Status.SinkFault → K.faults out.new ≡ K.faults out.old }
+    ensures sent { Told (K.sent out.old) (K.sent out.new) (PutsLines lines.now result) }
 {
     match write_all(shelf, outputs) {
         Err(stopped) => Err(stopped),
@@ -86,7 +91,10 @@ pub(crate) fn deliver<F: Shelf, K: Sink>(
     ensures stops { IfErr result (StopsDelivery (map (λ output. output.name) made.now.outputs.items)) }
     ensures later { F.faults shelf.old ≤ F.faults shelf.new }
     ensures cause { IfErr result (FailsWriting (F.faults shelf.old) (F.faults shelf.new) (F.last_failed shelf.new)) }
+    ensures stays { ¬ IsErrAnd result IsShelfFault → NoneFailed (F.faults shelf.old) (F.faults shelf.new) (F.last_failed shelf.old) (F.last_failed shelf.new) }
     ensures sink_fault { IfErr result (λ stopped. stopped ≡ Status.SinkFault → Rose (K.faults out.old) (K.faults out.new)) }
+    ensures sink_stays { ¬ IsErrOf result Status.SinkFault → K.faults out.new ≡ K.faults out.old }
+    ensures sent { Told (K.sent out.old) (K.sent out.new) (PutsLines made.now.lines.items result) }
 {
     send(shelf, out, &made.outputs, &made.lines)
 }

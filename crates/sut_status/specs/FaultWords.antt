@@ -1,9 +1,12 @@
 -- What is wrong with a file, in words: the variant's name in lower case with dashes, and then what it carries.
 use Rattle.std.specs.Prelude.{ℕ, List, [], ◌∷◌, codes, decimal}
+use Rattle.sut_text.specs.Text.{whole_text}
 use Rattle.sut_classes.specs.declared.ids.Axis.{Axis}
 use Rattle.sut_classes.specs.declared.ids.Axis.TheVariants as axis
 use Rattle.sut_measures.specs.declared.faults.Field.{Field}
 use Rattle.sut_measures.specs.declared.faults.Field.TheVariants as field
+use Rattle.sut_measures.specs.declared.faults.NameFault.{NameFault}
+use Rattle.sut_measures.specs.declared.faults.NameFault.TheVariants as name
 use Rattle.sut_classes.specs.declared.faults.ClassFault.{ClassFault}
 use Rattle.sut_classes.specs.declared.faults.ClassFault.TheVariants as class
 use Rattle.sut_settings.specs.declared.SettingsFault.{SettingsFault}
@@ -12,6 +15,12 @@ use Rattle.sut_source.specs.declared.faults.RowFault.{RowFault}
 use Rattle.sut_source.specs.declared.faults.RowFault.TheVariants as row
 use Rattle.sut_edits.specs.declared.faults.EditsCause.{EditsCause}
 use Rattle.sut_edits.specs.declared.faults.EditsCause.TheVariants as edits
+use Rattle.sut_readback.specs.declared.faults.BalancedCause.{BalancedCause}
+use Rattle.sut_readback.specs.declared.faults.BalancedCause.TheVariants as table
+use Rattle.sut_asks.specs.declared.faults.AskCause.{AskCause}
+use Rattle.sut_asks.specs.declared.faults.AskCause.TheVariants as ask
+use Rattle.sut_dismissals.specs.declared.faults.DismissCause.{DismissCause}
+use Rattle.sut_dismissals.specs.declared.faults.DismissCause.TheVariants as dismiss
 
 -- the word of an axis
 abbrev pub axis_word : Axis → List ℕ
@@ -89,3 +98,41 @@ edit_words edits.RowThere = codes "row-there" ∷ []
 edit_words edits.Full = codes "full" ∷ []
 edit_words edits.NoReviewer = codes "no-reviewer" ∷ []
 edit_words edits.NoMemory = codes "no-memory" ∷ []
+
+-- a fault in a name
+abbrev pub name_words : NameFault → List (List ℕ)
+name_words name.UnknownKind = codes "unknown-kind" ∷ []
+name_words (name.UnknownCode f) = codes "unknown-code" ∷ field_word f ∷ []
+name_words (name.NotEmpty f) = codes "not-empty" ∷ field_word f ∷ []
+name_words name.WrongService = codes "wrong-service" ∷ []
+
+-- a fault of a balanced table
+abbrev pub table_words : BalancedCause → List (List ℕ)
+table_words table.Csv = codes "csv" ∷ []
+table_words table.Header = codes "header" ∷ []
+table_words table.WrongMeasure = codes "wrong-measure" ∷ []
+table_words table.WrongTarget = codes "wrong-target" ∷ []
+table_words table.NotNumber = codes "not-number" ∷ []
+table_words table.OutOfRange = codes "out-of-range" ∷ []
+table_words (table.WrongTotal printed sum) = codes "wrong-total" ∷ whole_text printed ∷ whole_text sum ∷ []
+table_words table.Short = codes "short" ∷ []
+table_words table.NoMemory = codes "no-memory" ∷ []
+
+-- a fault of asks; the fault of a name follows
+abbrev pub ask_words : AskCause → List (List ℕ)
+ask_words ask.Csv = codes "csv" ∷ []
+ask_words ask.Header = codes "header" ∷ []
+ask_words (ask.BadName e) = codes "bad-name" ∷ name_words e
+ask_words ask.NotLive = codes "not-live" ∷ []
+ask_words ask.TooMany = codes "too-many" ∷ []
+ask_words ask.Short = codes "short" ∷ []
+ask_words ask.NoMemory = codes "no-memory" ∷ []
+
+-- a fault of dismissals
+abbrev pub dismiss_words : DismissCause → List (List ℕ)
+dismiss_words dismiss.Csv = codes "csv" ∷ []
+dismiss_words dismiss.Header = codes "header" ∷ []
+dismiss_words dismiss.WrongYear = codes "wrong-year" ∷ []
+dismiss_words dismiss.TooMany = codes "too-many" ∷ []
+dismiss_words dismiss.NoReviewer = codes "no-reviewer" ∷ []
+dismiss_words dismiss.NoMemory = codes "no-memory" ∷ []

@@ -1,14 +1,18 @@
-//! What is wrong with a file, in words: the variant's name in lower case with dashes, and then what it carries.
+//! What is wrong with a file, in words: the variant's name in lower case with dashes, and then what it carries. After want of
+//! memory a part of the words may stand in `out`, behind what stood there.
 
-ghost use Rattle.std.specs.Prelude.{◌≡◌, ◌++◌, OnOk};
-ghost use Rattle.sut_text.specs.Text.{spaced};
+ghost use Rattle.std.specs.Prelude.{◌≡◌, ◌++◌, ◌∷◌, [], OnOk, codes};
+ghost use Rattle.sut_text.specs.Text.{Keeps, spaced, whole_text};
 ghost use Rattle.sut_text.specs.Fields.{field_bytes};
-ghost use Rattle.sut_status.specs.FaultWords.{axis_word, class_words, edit_words, field_word, row_words, settings_words};
+ghost use Rattle.sut_status.specs.FaultWords.{ask_words, axis_word, class_words, dismiss_words, edit_words, field_word, name_words, row_words, settings_words, table_words};
 
 use no_memory::NoMemory;
+use sut_asks::AskCause;
 use sut_classes::{Axis, ClassFault};
+use sut_dismissals::DismissCause;
 use sut_edits::EditsCause;
-use sut_measures::Field;
+use sut_measures::{Field, NameFault};
+use sut_readback::BalancedCause;
 use sut_settings::SettingsFault;
 use sut_source::RowFault;
 use sut_text::fields::{Field as Word, put_words};
@@ -45,9 +49,11 @@ pub fn field_word(field: Field) -> Word<'static>
     }
 }
 
-/// A fault of the settings, each word behind a space; its number counts keys.
+/// A fault of the settings, each word behind a space; its number counts keys. After want of memory a part may stand in `out`,
+/// behind what stood there.
 pub fn put_settings_fault(out: &mut Vec<u8>, fault: SettingsFault) -> Result<(), NoMemory>
-    ensures { OnOk result (out.new.items ≡ out.old.items ++ spaced (settings_words fault)) }
+    ensures done { OnOk result (out.new.items ≡ out.old.items ++ spaced (settings_words fault)) }
+    ensures kept { Keeps out.old.items out.new.items }
 {
     match fault {
         SettingsFault::Toml => put_words(out, &[Word::Text(b"toml")]),
@@ -64,9 +70,11 @@ pub fn put_settings_fault(out: &mut Vec<u8>, fault: SettingsFault) -> Result<(),
     }
 }
 
-/// A fault of the classes without its line, each word behind a space.
+/// A fault of the classes without its line, each word behind a space. After want of memory a part may stand in `out`, behind
+/// what stood there.
 pub fn put_class_fault(out: &mut Vec<u8>, fault: ClassFault) -> Result<(), NoMemory>
-    ensures { OnOk result (out.new.items ≡ out.old.items ++ spaced (class_words fault)) }
+    ensures done { OnOk result (out.new.items ≡ out.old.items ++ spaced (class_words fault)) }
+    ensures kept { Keeps out.old.items out.new.items }
 {
     match fault {
         ClassFault::Csv(_) => put_words(out, &[Word::Text(b"csv")]),
@@ -81,9 +89,11 @@ pub fn put_class_fault(out: &mut Vec<u8>, fault: ClassFault) -> Result<(), NoMem
     }
 }
 
-/// A fault of a row, each word behind a space.
+/// A fault of a row, each word behind a space. After want of memory a part may stand in `out`, behind
+/// what stood there.
 pub fn put_row_fault(out: &mut Vec<u8>, fault: RowFault) -> Result<(), NoMemory>
-    ensures { OnOk result (out.new.items ≡ out.old.items ++ spaced (row_words fault)) }
+    ensures done { OnOk result (out.new.items ≡ out.old.items ++ spaced (row_words fault)) }
+    ensures kept { Keeps out.old.items out.new.items }
 {
     match fault {
         RowFault::Csv => put_words(out, &[Word::Text(b"csv")]),
@@ -104,9 +114,11 @@ pub fn put_row_fault(out: &mut Vec<u8>, fault: RowFault) -> Result<(), NoMemory>
     }
 }
 
-/// A fault of an edit, each word behind a space; the fault of its row follows.
+/// A fault of an edit, each word behind a space; the fault of its row follows. After want of memory a part may stand in `out`,
+/// behind what stood there.
 pub fn put_edit_fault(out: &mut Vec<u8>, fault: EditsCause) -> Result<(), NoMemory>
-    ensures { OnOk result (out.new.items ≡ out.old.items ++ spaced (edit_words fault)) }
+    ensures done { OnOk result (out.new.items ≡ out.old.items ++ spaced (edit_words fault)) }
+    ensures kept { Keeps out.old.items out.new.items }
 {
     match fault {
         EditsCause::Csv => put_words(out, &[Word::Text(b"csv")]),
@@ -123,5 +135,91 @@ pub fn put_edit_fault(out: &mut Vec<u8>, fault: EditsCause) -> Result<(), NoMemo
         EditsCause::Full => put_words(out, &[Word::Text(b"full")]),
         EditsCause::NoReviewer => put_words(out, &[Word::Text(b"no-reviewer")]),
         EditsCause::NoMemory => put_words(out, &[Word::Text(b"no-memory")]),
+    }
+}
+
+/// A fault in a name, each word behind a space. After want of memory a part may stand in `out`, behind what stood there.
+pub fn put_name_fault(out: &mut Vec<u8>, fault: NameFault) -> Result<(), NoMemory>
+    ensures done { OnOk result (out.new.items ≡ out.old.items ++ spaced (name_words fault)) }
+    ensures kept { Keeps out.old.items out.new.items }
+{
+    match fault {
+        NameFault::UnknownKind => put_words(out, &[Word::Text(b"unknown-kind")]),
+        NameFault::UnknownCode(at) => put_words(
+            out,
+            &[Word::Text(b"unknown-code"), field_word(at)],
+        ),
+        NameFault::NotEmpty(at) => put_words(out, &[Word::Text(b"not-empty"), field_word(at)]),
+        NameFault::WrongService => put_words(out, &[Word::Text(b"wrong-service")]),
+    }
+}
+
+// The value that is printed for a total, and the sum of its cells.
+fn put_wrong_total(out: &mut Vec<u8>, printed: i128, sum: i128) -> Result<(), NoMemory>
+    ensures done { OnOk result (out.new.items ≡ out.old.items ++ spaced (codes "wrong-total" ∷ whole_text printed ∷ whole_text sum ∷ [])) }
+    ensures kept { Keeps out.old.items out.new.items }
+{
+    put_words(
+        out,
+        &[
+            Word::Text(b"wrong-total"),
+            Word::Whole(printed),
+            Word::Whole(sum),
+        ],
+    )
+}
+
+/// A fault of a balanced table without its line, each word behind a space. After want of memory a part may stand in `out`,
+/// behind what stood there.
+pub fn put_table_cause(out: &mut Vec<u8>, cause: BalancedCause) -> Result<(), NoMemory>
+    ensures done { OnOk result (out.new.items ≡ out.old.items ++ spaced (table_words cause)) }
+    ensures kept { Keeps out.old.items out.new.items }
+{
+    match cause {
+        BalancedCause::Csv => put_words(out, &[Word::Text(b"csv")]),
+        BalancedCause::Header => put_words(out, &[Word::Text(b"header")]),
+        BalancedCause::WrongMeasure => put_words(out, &[Word::Text(b"wrong-measure")]),
+        BalancedCause::WrongTarget => put_words(out, &[Word::Text(b"wrong-target")]),
+        BalancedCause::NotNumber => put_words(out, &[Word::Text(b"not-number")]),
+        BalancedCause::OutOfRange => put_words(out, &[Word::Text(b"out-of-range")]),
+        BalancedCause::WrongTotal { printed, sum } => put_wrong_total(out, printed, sum),
+        BalancedCause::Short => put_words(out, &[Word::Text(b"short")]),
+        BalancedCause::NoMemory => put_words(out, &[Word::Text(b"no-memory")]),
+    }
+}
+
+/// A fault of asks without its line, each word behind a space; the fault of a name follows. After want of memory a part may
+/// stand in `out`, behind what stood there.
+pub fn put_ask_cause(out: &mut Vec<u8>, cause: AskCause) -> Result<(), NoMemory>
+    ensures done { OnOk result (out.new.items ≡ out.old.items ++ spaced (ask_words cause)) }
+    ensures kept { Keeps out.old.items out.new.items }
+{
+    match cause {
+        AskCause::Csv => put_words(out, &[Word::Text(b"csv")]),
+        AskCause::Header => put_words(out, &[Word::Text(b"header")]),
+        AskCause::BadName(fault) => {
+            put_words(out, &[Word::Text(b"bad-name")])?;
+            put_name_fault(out, fault)
+        }
+        AskCause::NotLive => put_words(out, &[Word::Text(b"not-live")]),
+        AskCause::TooMany => put_words(out, &[Word::Text(b"too-many")]),
+        AskCause::Short => put_words(out, &[Word::Text(b"short")]),
+        AskCause::NoMemory => put_words(out, &[Word::Text(b"no-memory")]),
+    }
+}
+
+/// A fault of dismissals without its line, each word behind a space. After want of memory a part may stand in `out`, behind
+/// what stood there.
+pub fn put_dismiss_cause(out: &mut Vec<u8>, cause: DismissCause) -> Result<(), NoMemory>
+    ensures done { OnOk result (out.new.items ≡ out.old.items ++ spaced (dismiss_words cause)) }
+    ensures kept { Keeps out.old.items out.new.items }
+{
+    match cause {
+        DismissCause::Csv => put_words(out, &[Word::Text(b"csv")]),
+        DismissCause::Header => put_words(out, &[Word::Text(b"header")]),
+        DismissCause::WrongYear => put_words(out, &[Word::Text(b"wrong-year")]),
+        DismissCause::TooMany => put_words(out, &[Word::Text(b"too-many")]),
+        DismissCause::NoReviewer => put_words(out, &[Word::Text(b"no-reviewer")]),
+        DismissCause::NoMemory => put_words(out, &[Word::Text(b"no-memory")]),
     }
 }

@@ -1,8 +1,12 @@
-//! Tests of the readers of a year's files, of edits, and of what is printed.
+//! Tests of the readers of a year's files, of edits, of asks, of dismissals, and of what is printed.
 #![tactic(auto)]
 
 #[cfg(test)]
+mod asks;
+#[cfg(test)]
 mod classes;
+#[cfg(test)]
+mod dismissals;
 #[cfg(test)]
 mod edit_faults;
 #[cfg(test)]

@@ -78,12 +78,21 @@ fn faults_of_lines(rt: HostRuntime) -> Result<(), Fail> {
 
 #[test]
 fn faults_of_penalties(rt: HostRuntime) -> Result<(), Fail> {
-    let other_word = b"basic,X,F,,104,:abc,,\n";
-    assert!(rt; row_fails(rt.alloc(), other_word, 2, RowFault::BadPenalty)?);
-    let leading_zeros = b"basic,X,F,,104,:band:007,,\n";
-    assert!(rt; row_fails(rt.alloc(), leading_zeros, 2, RowFault::BadPenalty)?);
-    let too_wide = b"basic,X,F,,104,:band:1000000000001,,\n";
-    assert!(rt; row_fails(rt.alloc(), too_wide, 2, RowFault::BadPenalty)?);
+    let rows = [
+        "basic,X,F,,104,:abc,,\n",
+        "basic,X,F,,104,:band:007,,\n",
+        "basic,X,F,,104,:band:1000000000001,,\n",
+        "basic,X,F,,104,:,,\n",
+        "basic,X,F,,104,:band:,,\n",
+        "basic,X,F,,104,:band:1:2,,\n",
+        "basic,X,F,,104,:band:-0,,\n",
+    ];
+    for row in rows {
+        assert!(rt;
+            row_fails(rt.alloc(), row.as_bytes(), 2, RowFault::BadPenalty)?,
+            "{row}"
+        );
+    }
     Ok(())
 }
 

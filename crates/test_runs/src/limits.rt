@@ -5,6 +5,14 @@ use std::alloc::Global;
 use std::fmt::Write;
 use std::test::Fail;
 use sut_outside::{FileName, MemorySink, SteadyShelf};
+use sut_run::Status;
+
+// How the balance of this year ends.
+fn balance(alloc: Global, year: &Year<'_>) -> Result<Status, Fail> {
+    let mut shelf = steady(alloc, year)?;
+    let mut out = MemorySink::new(alloc, 1000, Vec::new(alloc))?;
+    ends(alloc, &["balance"], &mut shelf, &mut out)
+}
 
 // The status line of the run of this year without rows.
 fn line_for(alloc: Global, settings: &str, classes: &str) -> Result<Vec<u8>, Fail> {
@@ -13,10 +21,7 @@ fn line_for(alloc: Global, settings: &str, classes: &str) -> Result<Vec<u8>, Fai
         classes,
         rows: "",
     };
-    let mut shelf = steady(alloc, &year)?;
-    let mut out = MemorySink::new(alloc, 1000, Vec::new(alloc))?;
-    let status = ends(alloc, &["balance"], &mut shelf, &mut out)?;
-    Ok(status.line(alloc)?)
+    Ok(balance(alloc, &year)?.line(alloc)?)
 }
 
 #[test]
@@ -44,6 +49,46 @@ fn grades(rt: HostRuntime) -> Result<(), Fail> {
     write!(settings, "G = 1\n")?;
     let line = line_for(rt.alloc(), &settings, SMALL)?;
     assert!(rt; line.as_slice() == b"sut: settings.toml: too-many\n".as_slice());
+    Ok(())
+}
+
+// 512 products and 32 final uses.
+fn many_classes(alloc: Global) -> Result<String, Fail> {
+    let mut text = String::from_str(alloc, "axis,code,kind\n")?;
+    for n in 0..512 {
+        writeln!(text, "product,P{n},plain")?;
+    }
+    for n in 0..32 {
+        writeln!(text, "final,F{n},")?;
+    }
+    Ok(text)
+}
+
+// A row for the purchases of each product by each final use.
+fn many_purchases(alloc: Global) -> Result<String, Fail> {
+    let mut rows = String::new(alloc);
+    for n in 0..16384u32 {
+        writeln!(rows, "purchase,P{},F{},,,,0,0", n / 32, n % 32)?;
+    }
+    Ok(rows)
+}
+
+#[test]
+fn totals(rt: HostRuntime) -> Result<(), Fail> {
+    let classes = many_classes(rt.alloc())?;
+    let mut rows = many_purchases(rt.alloc())?;
+    rows.push_str("supply,P0,,,,,0,0\n")?;
+    let year = Year {
+        settings: FLAT,
+        classes: &classes,
+        rows: &rows,
+    };
+    let status = balance(rt.alloc(), &year)?;
+    let line = status.line(rt.alloc())?;
+    assert!(rt;
+        line.as_slice() == b"sut: source.csv line 16386: too-many\n".as_slice()
+            && status.code() == 7
+    );
     Ok(())
 }
 

@@ -3,13 +3,17 @@
 use std::alloc::Global;
 use std::process::Abort;
 use std::test::Fail;
-use sut_classes::{Axis, ClassFault};
+use sut_asks::{AskCause, AskFault};
+use sut_classes::{Axis, ClassFault, Column, FinalId, IndustryId, MarginId, ProductId};
+use sut_dismissals::{DismissCause, DismissFault};
 use sut_edits::{EditsCause, EditsFault};
-use sut_measures::Field;
+use sut_measures::{Cell, Field, Measure, NameFault, Total};
 use sut_outside::FileName;
+use sut_readback::{BalancedCause, BalancedFault};
 use sut_run::Status;
 use sut_settings::SettingsFault;
 use sut_source::{RowFault, SourceFault};
+use sut_tables::{Broken, Place};
 
 fn check(rt: &impl Abort, alloc: Global, cases: &[(Status, u8, &'static str)]) -> Result<(), Fail> {
     for (status, code, text) in cases {
@@ -27,6 +31,11 @@ fn without_a_fault_of_input(rt: HostRuntime) -> Result<(), Fail> {
     let cases = [
         (Status::Balanced, 0, "sut: ok\n"),
         (Status::Generated, 0, "sut: ok\n"),
+        (Status::Migrated, 0, "sut: ok\n"),
+        (Status::Published, 0, "sut: ok\n"),
+        (Status::Ranged, 0, "sut: ok\n"),
+        (Status::Series, 0, "sut: ok\n"),
+        (Status::Shared, 0, "sut: ok\n"),
         (Status::NoMemory, 1, "sut: out of memory\n"),
         (Status::Usage, 2, "sut: usage: a command of sut\n"),
         (Status::Infeasible, 3, "sut: infeasible\n"),
@@ -50,6 +59,11 @@ fn without_a_fault_of_input(rt: HostRuntime) -> Result<(), Fail> {
             Status::TooLong(FileName::SettingsToml),
             14,
             "sut: too long settings.toml\n",
+        ),
+        (
+            Status::TooManyPairs(4_000_001),
+            19,
+            "sut: too many pairs 4000001\n",
         ),
     ];
     check(&rt, rt.alloc(), &cases)
@@ -199,6 +213,161 @@ fn faults_of_edits(rt: HostRuntime) -> Result<(), Fail> {
     for (cause, text) in cases {
         let fault = EditsFault { line: 2, cause };
         check(&rt, rt.alloc(), &[(Status::BadEdits(fault), 8, text)])?;
+    }
+    Ok(())
+}
+
+#[test]
+fn faults_of_tables(rt: HostRuntime) -> Result<(), Fail> {
+    let cases = [
+        (BalancedCause::Csv, "sut: balanced.csv line 11: csv\n"),
+        (BalancedCause::Header, "sut: balanced.csv line 11: header\n"),
+        (
+            BalancedCause::WrongMeasure,
+            "sut: balanced.csv line 11: wrong-measure\n",
+        ),
+        (
+            BalancedCause::WrongTarget,
+            "sut: balanced.csv line 11: wrong-target\n",
+        ),
+        (
+            BalancedCause::NotNumber,
+            "sut: balanced.csv line 11: not-number\n",
+        ),
+        (
+            BalancedCause::OutOfRange,
+            "sut: balanced.csv line 11: out-of-range\n",
+        ),
+        (
+            BalancedCause::WrongTotal {
+                printed: -7,
+                sum: 120,
+            },
+            "sut: balanced.csv line 11: wrong-total -7 120\n",
+        ),
+        (BalancedCause::Short, "sut: balanced.csv line 11: short\n"),
+    ];
+    for (cause, text) in cases {
+        let fault = BalancedFault { line: 11, cause };
+        check(&rt, rt.alloc(), &[(Status::BadTable(fault), 15, text)])?;
+    }
+    Ok(())
+}
+
+#[test]
+fn broken_tables(rt: HostRuntime) -> Result<(), Fail> {
+    let used = Cell::Basic(ProductId(2), Column::Final(FinalId(1)));
+    let cases = [
+        (
+            Place::Product(ProductId(0)),
+            "sut: not admissible product 1 100 104\n",
+        ),
+        (
+            Place::Industry(IndustryId(255)),
+            "sut: not admissible industry 256 100 104\n",
+        ),
+        (
+            Place::Margin(MarginId(3)),
+            "sut: not admissible margin 4 100 104\n",
+        ),
+        (
+            Place::Below(Measure::Cell(used)),
+            "sut: not admissible below basic 3 final 2 100 104\n",
+        ),
+        (
+            Place::Above(Measure::Total(Total::Gdp)),
+            "sut: not admissible above gdp 100 104\n",
+        ),
+    ];
+    for (place, text) in cases {
+        let broken = Broken {
+            place,
+            left: 100,
+            right: 104,
+        };
+        check(
+            &rt,
+            rt.alloc(),
+            &[(Status::NotAdmissible(broken), 16, text)],
+        )?;
+    }
+    Ok(())
+}
+
+#[test]
+fn faults_of_asks(rt: HostRuntime) -> Result<(), Fail> {
+    let cases = [
+        (1, AskCause::Header, "sut: asks.csv line 1: header\n"),
+        (2, AskCause::Csv, "sut: asks.csv line 2: csv\n"),
+        (2, AskCause::NotLive, "sut: asks.csv line 2: not-live\n"),
+        (
+            3,
+            AskCause::BadName(NameFault::UnknownCode(Field::A)),
+            "sut: asks.csv line 3: bad-name unknown-code a\n",
+        ),
+        (
+            3,
+            AskCause::BadName(NameFault::UnknownKind),
+            "sut: asks.csv line 3: bad-name unknown-kind\n",
+        ),
+        (
+            3,
+            AskCause::BadName(NameFault::NotEmpty(Field::C)),
+            "sut: asks.csv line 3: bad-name not-empty c\n",
+        ),
+        (
+            3,
+            AskCause::BadName(NameFault::WrongService),
+            "sut: asks.csv line 3: bad-name wrong-service\n",
+        ),
+        (66, AskCause::TooMany, "sut: asks.csv line 66: too-many\n"),
+        (2, AskCause::Short, "sut: asks.csv line 2: short\n"),
+    ];
+    for (line, cause, text) in cases {
+        let fault = AskFault { line, cause };
+        check(&rt, rt.alloc(), &[(Status::BadAsks(fault), 17, text)])?;
+    }
+    Ok(())
+}
+
+#[test]
+fn faults_of_dismissals(rt: HostRuntime) -> Result<(), Fail> {
+    let cases = [
+        (DismissCause::Csv, "sut: dismiss.csv line 3: csv\n"),
+        (DismissCause::Header, "sut: dismiss.csv line 3: header\n"),
+        (
+            DismissCause::WrongYear,
+            "sut: dismiss.csv line 3: wrong-year\n",
+        ),
+        (DismissCause::TooMany, "sut: dismiss.csv line 3: too-many\n"),
+        (
+            DismissCause::NoReviewer,
+            "sut: dismiss.csv line 3: no-reviewer\n",
+        ),
+    ];
+    for (cause, text) in cases {
+        let fault = DismissFault { line: 3, cause };
+        check(&rt, rt.alloc(), &[(Status::BadDismiss(fault), 18, text)])?;
+    }
+    Ok(())
+}
+
+#[test]
+fn faults_of_years(rt: HostRuntime) -> Result<(), Fail> {
+    let fault = SourceFault {
+        line: 2,
+        cause: RowFault::OutOfRange(Field::Target),
+    };
+    let cases = [
+        (0, "sut: year 0 line 2: out-of-range target\n"),
+        (1, "sut: year1.csv line 2: out-of-range target\n"),
+        (2, "sut: year2.csv line 2: out-of-range target\n"),
+        (9, "sut: year9.csv line 2: out-of-range target\n"),
+        (10, "sut: year 10 line 2: out-of-range target\n"),
+        (255, "sut: year 255 line 2: out-of-range target\n"),
+    ];
+    for (year, text) in cases {
+        check(&rt, rt.alloc(), &[(Status::BadYear(year, fault), 20, text)])?;
     }
     Ok(())
 }

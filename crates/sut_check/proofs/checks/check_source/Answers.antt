@@ -5,8 +5,8 @@ use Rattle.sut_outside.specs.Causes.{Rose}
 use Rattle.sut_check.specs.declared.statuses.CheckStatus.{CheckStatus}
 use Rattle.sut_check.specs.CheckWords.{checked_names}
 use Rattle.sut_check.specs.Findings.{check_text}
-use Rattle.sut_check.specs.CheckEnds.{AnswersCheck, AreLines, IfReadFault, Prints}
-use Rattle.sut_check.proofs.Ended.{IsRefusal, claim-answers-told, claim-lines, claim-reads, claim-used, is-refusal, refused-answers-told, refused-prints, refused-reads, told-prints-as}
+use Rattle.sut_check.specs.CheckEnds.{AnswersCheck, AreLines, IfReadFault, IsReadFault, Prints}
+use Rattle.sut_check.proofs.Ended.{IsRefusal, claim-answers-told, claim-lines, claim-reads, claim-used, is-refusal, refused-answers-told, refused-failed, refused-prints, refused-reads, told-prints-as}
 use Rattle.sut_check.proofs.checks.check_source.Goals as goal
 
 pub returns-in-Ok-clause-answers : goal.returns-in-Ok-clause-answers
@@ -45,3 +45,7 @@ returns-in-Err-clause-sink_fault g c e = absurd (subst IsRefusal (sym c.status_o
 
 pub returns-in-Err-clause-used : goal.returns-in-Err-clause-used
 returns-in-Err-clause-used g c e = subst IsRefusal (sym c.status_of.ensures ∙ e) (is-refusal c.in-Err.fault)
+
+pub returns-in-Err-clause-shelf_stays : goal.returns-in-Err-clause-shelf_stays
+returns-in-Err-clause-shelf_stays g c other =
+    c.in-Err.ensures.stays (λ is. other (subst IsReadFault (sym c.status_of.ensures) (refused-failed c.in-Err.fault is)))

@@ -1,5 +1,6 @@
 use Rattle.std.proofs.Common.{◌≡◌, None, Ok}
 use Rattle.sut_outside.specs.Files.{Files}
+use Rattle.sut_outside.proofs.NoneFailed.{both_stay}
 use Rattle.sut_input.proofs.StepLemmas.{kept-twice, told-back}
 use Rattle.sut_check.specs.CheckWords.{answer_names, checked_names}
 use Rattle.sut_check.specs.Claims.{Refuses, answer_in}
@@ -36,3 +37,11 @@ pub returns-in-Err-read_answer-clause-cause : goal.returns-in-Err-read_answer-cl
 returns-in-Err-read_answer-clause-cause g c =
     fails-later answer_names (checked_names c.args.source) (last-names c.args.source) (g.F.Shelf.faults c.args.shelf.now) (g.F.Shelf.faults c.read_problem.new.shelf) (g.F.Shelf.faults c.read_answer.new.shelf)
     (g.F.Shelf.last_failed c.read_answer.new.shelf) c.in-Err-read_answer.fault c.read_problem.ensures.later c.in-Err-read_answer.ensures.cause
+
+pub returns-in-Ok-read_answer-clause-stays : goal.returns-in-Ok-read_answer-clause-stays
+returns-in-Ok-read_answer-clause-stays g c other =
+    both_stay (c.in-Ok.ensures.stays (λ h. h)) (c.in-Ok-read_answer.ensures.stays other)
+
+pub returns-in-Err-read_answer-clause-stays : goal.returns-in-Err-read_answer-clause-stays
+returns-in-Err-read_answer-clause-stays g c other =
+    both_stay (c.in-Ok.ensures.stays (λ h. h)) (c.in-Err-read_answer.ensures.stays other)

@@ -1,6 +1,7 @@
 use Rattle.std.proofs.Common.{◌≡◌, ◌∷◌, [], None, Ok, IfSome, arith}
 use Rattle.sut_outside.specs.declared.names.FileName.TheVariants.{BalancedCsv, CertificateCsv}
 use Rattle.sut_outside.specs.Files.{Files}
+use Rattle.sut_outside.proofs.NoneFailed.{both_stay}
 use Rattle.sut_input.proofs.StepLemmas.{kept-twice, told-back}
 use Rattle.sut_cert.specs.declared.answers.Answer.{Answer}
 use Rattle.sut_check.specs.declared.faults.CheckFault.{CheckFault}
@@ -40,6 +41,9 @@ returns-in-Ok-clause-cause g c =
     (FailsIn answer_names (g.F.Shelf.faults c.args.shelf.now) (g.F.Shelf.faults c.by_certificate.new.shelf) (g.F.Shelf.last_failed c.by_certificate.new.shelf))
     (λ f cause same. fails-later (BalancedCsv ∷ []) answer_names table-named _ _ _ _ f c.read_certificate_file.ensures.later cause)
     c.by_certificate.ensures.cause c.by_certificate.ensures.cause
+
+pub returns-in-Ok-clause-stays : goal.returns-in-Ok-clause-stays
+returns-in-Ok-clause-stays g c other = both_stay (c.in-Ok.ensures.stays (λ h. h)) (c.by_certificate.ensures.stays other)
 
 pub returns-in-Err-clause-err : goal.returns-in-Err-clause-err
 returns-in-Err-clause-err g c = answer-refused c.args.p.now (g.F.Shelf.files c.args.shelf.now) c.in-Err.fault c.in-Err.ensures.err

@@ -1,6 +1,7 @@
 use Rattle.std.proofs.Common.{◌≡◌, None, Ok, IfSome, subst}
 use Rattle.sut_classes.specs.ClassLists.{ClassLists}
 use Rattle.sut_outside.specs.Files.{Files}
+use Rattle.sut_outside.proofs.NoneFailed.{both_stay}
 use Rattle.sut_input.specs.EditInputs.{RefusesEdits, edits_in}
 use Rattle.sut_input.proofs.StepLemmas.{kept-twice, told-back}
 use Rattle.sut_input.proofs.EditSteps.{edits-given, edits-not-given, fails-first, fails-last, only-edits, problem-not-given}
@@ -34,3 +35,11 @@ pub returns-in-Err-read_edits_file-clause-cause : goal.returns-in-Err-read_edits
 returns-in-Err-read_edits_file-clause-cause g c =
     fails-last (g.F.Shelf.faults c.args.shelf.now) (g.F.Shelf.faults c.read_problem.new.shelf) (g.F.Shelf.faults c.read_edits_file.new.shelf)
     (g.F.Shelf.last_failed c.read_edits_file.new.shelf) c.in-Err-read_edits_file.fault c.read_problem.ensures.later c.in-Err-read_edits_file.ensures.cause
+
+pub returns-in-Ok-read_edits_file-clause-stays : goal.returns-in-Ok-read_edits_file-clause-stays
+returns-in-Ok-read_edits_file-clause-stays g c other =
+    both_stay (c.in-Ok.ensures.stays (λ h. h)) (c.in-Ok-read_edits_file.ensures.stays other)
+
+pub returns-in-Err-read_edits_file-clause-stays : goal.returns-in-Err-read_edits_file-clause-stays
+returns-in-Err-read_edits_file-clause-stays g c other =
+    both_stay (c.in-Ok.ensures.stays (λ h. h)) (c.in-Err-read_edits_file.ensures.stays other)

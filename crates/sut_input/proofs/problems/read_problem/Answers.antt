@@ -1,6 +1,7 @@
 use Rattle.std.proofs.Common.{◌≤◌, arith}
 use Rattle.sut_outside.specs.declared.names.FileName.TheVariants.{SettingsToml, ClassesCsv}
 use Rattle.sut_outside.specs.Files.{Files}
+use Rattle.sut_outside.proofs.NoneFailed.{both_stay}
 use Rattle.sut_input.specs.Reads.{GivesOk, Refuses}
 use Rattle.sut_input.specs.Inputs.{classes_in, problem_names, source_in}
 use Rattle.sut_input.proofs.StepLemmas.{classes-refused-told, fails-later, first-of, kept-twice, only-name, problem-told, second-of, settings-refused-told, source-refused-told, third-of, told-back}
@@ -58,3 +59,17 @@ returns-in-Err-read_source_file-clause-cause g c =
     let later : g.F.Shelf.faults c.args.shelf.now ≤ g.F.Shelf.faults c.read_classes_file.new.shelf = omega (arith, c.read_settings_file.ensures.later, c.read_classes_file.ensures.later) in
     fails-later (problem_names c.args.source) c.args.source (third-of c.args.source) (g.F.Shelf.faults c.args.shelf.now) (g.F.Shelf.faults c.read_classes_file.new.shelf) (g.F.Shelf.faults c.read_source_file.new.shelf)
     (g.F.Shelf.last_failed c.read_source_file.new.shelf) c.in-Err-read_source_file.fault later c.in-Err-read_source_file.ensures.cause
+
+pub returns-in-Err-read_classes_file-clause-stays :
+    goal.returns-in-Err-read_classes_file-clause-stays
+returns-in-Err-read_classes_file-clause-stays g c other =
+    both_stay (c.in-Ok.ensures.stays (λ h. h)) (c.in-Err-read_classes_file.ensures.stays other)
+
+pub returns-in-Ok-read_source_file-clause-stays : goal.returns-in-Ok-read_source_file-clause-stays
+returns-in-Ok-read_source_file-clause-stays g c other =
+    both_stay (both_stay (c.in-Ok.ensures.stays (λ h. h)) (c.in-Ok-read_classes_file.ensures.stays (λ h. h))) (c.in-Ok-read_source_file.ensures.stays other)
+
+pub returns-in-Err-read_source_file-clause-stays :
+    goal.returns-in-Err-read_source_file-clause-stays
+returns-in-Err-read_source_file-clause-stays g c other =
+    both_stay (both_stay (c.in-Ok.ensures.stays (λ h. h)) (c.in-Ok-read_classes_file.ensures.stays (λ h. h))) (c.in-Err-read_source_file.ensures.stays other)

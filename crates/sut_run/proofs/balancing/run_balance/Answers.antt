@@ -1,7 +1,8 @@
-use Rattle.std.proofs.Common.{◌≡◌, ◌∙◌, Ok, Err, Some, None, Contains, IfSome, map, inl, sym, subst}
+use Rattle.std.proofs.Common.{◌≡◌, ◌∙◌, Ok, Err, Some, None, Contains, IfSome, map, inl, refl, sym, subst}
 use Rattle.sut_outside.specs.declared.names.FileName.{FileName}
 use Rattle.sut_outside.specs.Files.{Files, SameFiles, Told}
 use Rattle.sut_outside.specs.Causes.{Rose}
+use Rattle.sut_outside.proofs.NoneFailed.{both_stay}
 use Rattle.sut_outside.proofs.Told.{told_as, told_then, told_with}
 use Rattle.sut_status.specs.declared.statuses.Status.{Status}
 use Rattle.sut_status.specs.declared.statuses.Status.TheVariants.{NoMemory}
@@ -11,9 +12,10 @@ use Rattle.sut_run.specs.declared.writing.Output.{Output}
 use Rattle.sut_run.specs.Commands.{read_names, written_names}
 use Rattle.sut_run.specs.Inputs.{input_of, to_balance}
 use Rattle.sut_run.specs.Outputs.{texts_in}
-use Rattle.sut_run.specs.Steps.{Delivered, IfReadFault, IfWriteFault}
-use Rattle.sut_run.specs.Ends.{AnswersInput, IsDone, Stands}
+use Rattle.sut_run.specs.Steps.{Delivered, IfReadFault, IfWriteFault, IsShelfFault}
+use Rattle.sut_run.specs.Ends.{AnswersInput, AreLines, IsDone, Stands}
 use Rattle.sut_run.proofs.Delivered.{IsRefusal, IsStop, answer-done, answer-no-migration, balance-answers, done-answers, done-reads, done-stands, done-writes, failed-answers, failed-reads, failed-stands, failed-writes, given-told, gives-answer, is-refusal, is-stop, prepared-names, refused-reads, refused-told, refused-writes, sent-same, whatever}
+use Rattle.sut_run.proofs.Printed.{done-prints, refusal-prints, refused-failed, stopped-prints}
 use Rattle.sut_run.proofs.Headlined.{balanced-told, infeasible-told}
 use Rattle.sut_run.proofs.Lists.{names_in}
 use Rattle.sut_run.proofs.balancing.run_balance.Goals as goal
@@ -123,3 +125,33 @@ returns-clause-migrated g c e = absurd (subst IsStop e (is-stop (map (λ (output
 
 pub returns-clause-used : goal.returns-clause-used
 returns-clause-used g c e = absurd (subst IsStop e (is-stop (map (λ (output : Output). output.name) c.in-Ok-prepare.prepared.made.outputs.items) c.in-Err-deliver.stopped c.in-Err-deliver.ensures.stops))
+
+pub returns-in-Err-clause-shelf_stays : goal.returns-in-Err-clause-shelf_stays
+returns-in-Err-clause-shelf_stays g c other =
+    c.in-Err.ensures.stays (λ is. other (subst IsShelfFault (sym c.refused.ensures) (refused-failed c.in-Err.fault is)))
+
+pub returns-in-Err-clause-printed : goal.returns-in-Err-clause-printed
+returns-in-Err-clause-printed g c =
+    refusal-prints (AreLines (map (λ b. new_seat ((g.dyn-1.0.entry b.vtable).1.name b.value) ((g.dyn-1.0.entry b.vtable).1.rule b.value)) c.args.reviewers.items) Balance (g.F.Shelf.files c.args.shelf.now)) c.refused.result (subst IsRefusal (sym c.refused.ensures) (is-refusal c.in-Err.fault)) (g.K.Sink.sent c.args.out.now)
+
+pub returns-in-Err-prepare-clause-printed : goal.returns-in-Err-prepare-clause-printed
+returns-in-Err-prepare-clause-printed g c =
+    sent-same (g.K.Sink.sent c.args.out.now)
+
+pub returns-in-Ok-deliver-clause-shelf_stays : goal.returns-in-Ok-deliver-clause-shelf_stays
+returns-in-Ok-deliver-clause-shelf_stays g c other =
+    both_stay (c.in-Ok.ensures.stays (λ h. h)) (c.in-Ok-deliver.ensures.stays (λ h. h))
+
+pub returns-in-Ok-deliver-clause-printed : goal.returns-in-Ok-deliver-clause-printed
+returns-in-Ok-deliver-clause-printed g c =
+    done-prints (AreLines (map (λ b. new_seat ((g.dyn-1.0.entry b.vtable).1.name b.value) ((g.dyn-1.0.entry b.vtable).1.rule b.value)) c.args.reviewers.items) Balance (g.F.Shelf.files c.args.shelf.now)) c.in-Ok-prepare.prepared.done (answer-done c.in-Ok-prepare.ensures.answer c.in-Ok-prepare.prepared.done c.in-Ok-prepare.ensures.ends) c.in-Ok-prepare.prepared.made.lines.items (record { input = to_balance c.in-Ok.input.settings c.in-Ok.input.problem; delivery = record { texts = texts_in c.in-Ok-prepare.prepared.made.outputs.items; lines = c.in-Ok-prepare.prepared.made.lines.items }; given = given-told (map (λ b. new_seat ((g.dyn-1.0.entry b.vtable).1.name b.value) ((g.dyn-1.0.entry b.vtable).1.rule b.value)) c.args.reviewers.items) c.in-Ok.input.settings c.in-Ok.input.problem (g.F.Shelf.files c.args.shelf.now) c.in-Ok.ensures.ok; gives = gives-answer (map (λ b. new_seat ((g.dyn-1.0.entry b.vtable).1.name b.value) ((g.dyn-1.0.entry b.vtable).1.rule b.value)) c.args.reviewers.items) c.in-Ok.input.problem c.in-Ok-prepare.prepared.done (texts_in c.in-Ok-prepare.prepared.made.outputs.items) c.in-Ok-prepare.prepared.made.lines.items c.in-Ok-prepare.ensures; printed = refl })
+    _ _ c.in-Ok-deliver.ensures.sent
+
+pub returns-clause-shelf_stays : goal.returns-clause-shelf_stays
+returns-clause-shelf_stays g c other =
+    both_stay (c.in-Ok.ensures.stays (λ h. h)) (c.in-Err-deliver.ensures.stays other)
+
+pub returns-clause-printed : goal.returns-clause-printed
+returns-clause-printed g c =
+    stopped-prints (AreLines (map (λ b. new_seat ((g.dyn-1.0.entry b.vtable).1.name b.value) ((g.dyn-1.0.entry b.vtable).1.rule b.value)) c.args.reviewers.items) Balance (g.F.Shelf.files c.args.shelf.now)) c.in-Ok-prepare.prepared.done c.in-Ok-prepare.prepared.made.lines.items (record { input = to_balance c.in-Ok.input.settings c.in-Ok.input.problem; delivery = record { texts = texts_in c.in-Ok-prepare.prepared.made.outputs.items; lines = c.in-Ok-prepare.prepared.made.lines.items }; given = given-told (map (λ b. new_seat ((g.dyn-1.0.entry b.vtable).1.name b.value) ((g.dyn-1.0.entry b.vtable).1.rule b.value)) c.args.reviewers.items) c.in-Ok.input.settings c.in-Ok.input.problem (g.F.Shelf.files c.args.shelf.now) c.in-Ok.ensures.ok; gives = gives-answer (map (λ b. new_seat ((g.dyn-1.0.entry b.vtable).1.name b.value) ((g.dyn-1.0.entry b.vtable).1.rule b.value)) c.args.reviewers.items) c.in-Ok.input.problem c.in-Ok-prepare.prepared.done (texts_in c.in-Ok-prepare.prepared.made.outputs.items) c.in-Ok-prepare.prepared.made.lines.items c.in-Ok-prepare.ensures; printed = refl })
+    (map (λ (output : Output). output.name) c.in-Ok-prepare.prepared.made.outputs.items) c.in-Err-deliver.stopped c.in-Err-deliver.ensures.stops _ _ c.in-Err-deliver.ensures.sent

@@ -1,7 +1,8 @@
-use Rattle.std.proofs.Common.{◌≡◌, ◌∙◌, Ok, Err, Some, None, Contains, IfSome, map, sym, subst}
+use Rattle.std.proofs.Common.{◌≡◌, ◌∙◌, Ok, Err, Some, None, Contains, IfSome, map, refl, sym, subst}
 use Rattle.sut_outside.specs.declared.names.FileName.{FileName}
 use Rattle.sut_outside.specs.Files.{Files, SameFiles, Told}
 use Rattle.sut_outside.specs.Causes.{Rose}
+use Rattle.sut_outside.proofs.NoneFailed.{both_stay}
 use Rattle.sut_outside.proofs.Told.{told_then, told_with}
 use Rattle.sut_status.specs.declared.statuses.Status.{Status}
 use Rattle.sut_review.specs.Seats.{new_seat}
@@ -10,10 +11,11 @@ use Rattle.sut_run.specs.declared.writing.Output.{Output}
 use Rattle.sut_run.specs.Commands.{read_names, written_names}
 use Rattle.sut_run.specs.Inputs.{input_of, to_edit}
 use Rattle.sut_run.specs.Outputs.{texts_in}
-use Rattle.sut_run.specs.Steps.{Delivered, IfReadFault, IfWriteFault}
-use Rattle.sut_run.specs.Ends.{AnswersInput, IsDone, Stands}
+use Rattle.sut_run.specs.Steps.{Delivered, IfReadFault, IfWriteFault, IsShelfFault}
+use Rattle.sut_run.specs.Ends.{AnswersInput, AreLines, IsDone, Stands}
 use Rattle.sut_run.proofs.Delivered.{IsRefusal, IsStop, answer-done, answer-no-migration, done-answers, done-reads, done-stands, done-writes, failed-answers, failed-reads, failed-stands, failed-writes, is-stop}
 use Rattle.sut_run.proofs.EditDelivered.{edit-names-within, edits-answers, edits-given, edits-reads, edits-told, edits-writes, gives-edits, is-edits-refusal, is-stopped-refusal, stopped-answers, stopped-reads, stopped-told, stopped-writes}
+use Rattle.sut_run.proofs.Printed.{done-prints, edits-failed, refusal-prints, stopped-prints}
 use Rattle.sut_run.proofs.EditHeadlined.{edit-balanced-told, edit-infeasible-told}
 use Rattle.sut_run.proofs.Lists.{names_in}
 use Rattle.sut_run.proofs.editing.run_edit.Goals as goal
@@ -161,3 +163,33 @@ returns-clause-migrated g c e =
 pub returns-clause-used : goal.returns-clause-used
 returns-clause-used g c e =
     absurd (subst IsStop e (is-stop (map (λ (output : Output). output.name) c.in-Ok-prepare_given.prepared.made.outputs.items) c.in-Err-deliver.stopped c.in-Err-deliver.ensures.stops))
+
+pub returns-in-Err-clause-shelf_stays : goal.returns-in-Err-clause-shelf_stays
+returns-in-Err-clause-shelf_stays g c other =
+    c.in-Err.ensures.stays (λ is. other (subst IsShelfFault (sym c.edits_refused.ensures) (edits-failed c.in-Err.fault is)))
+
+pub returns-in-Err-clause-printed : goal.returns-in-Err-clause-printed
+returns-in-Err-clause-printed g c =
+    refusal-prints (AreLines (map (λ b. new_seat ((g.dyn-1.0.entry b.vtable).1.name b.value) ((g.dyn-1.0.entry b.vtable).1.rule b.value)) c.args.reviewers.items) Edit (g.F.Shelf.files c.args.shelf.now)) c.edits_refused.result (subst IsRefusal (sym c.edits_refused.ensures) (is-edits-refusal c.in-Err.fault)) (g.K.Sink.sent c.args.out.now)
+
+pub returns-in-Err-prepare_given-clause-printed : goal.returns-in-Err-prepare_given-clause-printed
+returns-in-Err-prepare_given-clause-printed g c =
+    refusal-prints (AreLines (map (λ b. new_seat ((g.dyn-1.0.entry b.vtable).1.name b.value) ((g.dyn-1.0.entry b.vtable).1.rule b.value)) c.args.reviewers.items) Edit (g.F.Shelf.files c.args.shelf.now)) c.edit_stopped.result (subst IsRefusal (sym c.edit_stopped.ensures) (is-stopped-refusal c.in-Err-prepare_given.fault)) (g.K.Sink.sent c.args.out.now)
+
+pub returns-in-Ok-deliver-clause-shelf_stays : goal.returns-in-Ok-deliver-clause-shelf_stays
+returns-in-Ok-deliver-clause-shelf_stays g c other =
+    both_stay (c.in-Ok.ensures.stays (λ h. h)) (c.in-Ok-deliver.ensures.stays (λ h. h))
+
+pub returns-in-Ok-deliver-clause-printed : goal.returns-in-Ok-deliver-clause-printed
+returns-in-Ok-deliver-clause-printed g c =
+    done-prints (AreLines (map (λ b. new_seat ((g.dyn-1.0.entry b.vtable).1.name b.value) ((g.dyn-1.0.entry b.vtable).1.rule b.value)) c.args.reviewers.items) Edit (g.F.Shelf.files c.args.shelf.now)) c.in-Ok-prepare_given.prepared.done (answer-done c.in-Ok-prepare_given.ensures.prepared.is.answer c.in-Ok-prepare_given.prepared.done c.in-Ok-prepare_given.ensures.prepared.is.ends) c.in-Ok-prepare_given.prepared.made.lines.items (record { input = to_edit c.in-Ok.given.input.settings c.in-Ok-prepare_given.ensures.prepared.moments; delivery = record { texts = texts_in c.in-Ok-prepare_given.prepared.made.outputs.items; lines = c.in-Ok-prepare_given.prepared.made.lines.items }; given = edits-given (map (λ b. new_seat ((g.dyn-1.0.entry b.vtable).1.name b.value) ((g.dyn-1.0.entry b.vtable).1.rule b.value)) c.args.reviewers.items) c.in-Ok.given.input.settings c.in-Ok.given.input.problem c.in-Ok.given.edits.items (g.F.Shelf.files c.args.shelf.now) c.in-Ok-prepare_given.ensures.prepared.moments c.in-Ok.ensures.ok c.in-Ok-prepare_given.ensures.prepared.are; gives = gives-edits (map (λ b. new_seat ((g.dyn-1.0.entry b.vtable).1.name b.value) ((g.dyn-1.0.entry b.vtable).1.rule b.value)) c.args.reviewers.items) c.in-Ok.given.input.settings c.in-Ok-prepare_given.ensures.prepared.moments c.in-Ok-prepare_given.prepared.done (texts_in c.in-Ok-prepare_given.prepared.made.outputs.items) c.in-Ok-prepare_given.prepared.made.lines.items c.in-Ok-prepare_given.ensures.prepared.is; printed = refl })
+    _ _ c.in-Ok-deliver.ensures.sent
+
+pub returns-clause-shelf_stays : goal.returns-clause-shelf_stays
+returns-clause-shelf_stays g c other =
+    both_stay (c.in-Ok.ensures.stays (λ h. h)) (c.in-Err-deliver.ensures.stays other)
+
+pub returns-clause-printed : goal.returns-clause-printed
+returns-clause-printed g c =
+    stopped-prints (AreLines (map (λ b. new_seat ((g.dyn-1.0.entry b.vtable).1.name b.value) ((g.dyn-1.0.entry b.vtable).1.rule b.value)) c.args.reviewers.items) Edit (g.F.Shelf.files c.args.shelf.now)) c.in-Ok-prepare_given.prepared.done c.in-Ok-prepare_given.prepared.made.lines.items (record { input = to_edit c.in-Ok.given.input.settings c.in-Ok-prepare_given.ensures.prepared.moments; delivery = record { texts = texts_in c.in-Ok-prepare_given.prepared.made.outputs.items; lines = c.in-Ok-prepare_given.prepared.made.lines.items }; given = edits-given (map (λ b. new_seat ((g.dyn-1.0.entry b.vtable).1.name b.value) ((g.dyn-1.0.entry b.vtable).1.rule b.value)) c.args.reviewers.items) c.in-Ok.given.input.settings c.in-Ok.given.input.problem c.in-Ok.given.edits.items (g.F.Shelf.files c.args.shelf.now) c.in-Ok-prepare_given.ensures.prepared.moments c.in-Ok.ensures.ok c.in-Ok-prepare_given.ensures.prepared.are; gives = gives-edits (map (λ b. new_seat ((g.dyn-1.0.entry b.vtable).1.name b.value) ((g.dyn-1.0.entry b.vtable).1.rule b.value)) c.args.reviewers.items) c.in-Ok.given.input.settings c.in-Ok-prepare_given.ensures.prepared.moments c.in-Ok-prepare_given.prepared.done (texts_in c.in-Ok-prepare_given.prepared.made.outputs.items) c.in-Ok-prepare_given.prepared.made.lines.items c.in-Ok-prepare_given.ensures.prepared.is; printed = refl })
+    (map (λ (output : Output). output.name) c.in-Ok-prepare_given.prepared.made.outputs.items) c.in-Err-deliver.stopped c.in-Err-deliver.ensures.stops _ _ c.in-Err-deliver.ensures.sent

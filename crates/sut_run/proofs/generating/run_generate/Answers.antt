@@ -8,8 +8,9 @@ use Rattle.sut_run.specs.declared.writing.Output.{Output}
 use Rattle.sut_run.specs.Inputs.{to_generate}
 use Rattle.sut_run.specs.Outputs.{texts_in}
 use Rattle.sut_run.specs.Steps.{Delivered}
-use Rattle.sut_run.specs.Ends.{Stands}
-use Rattle.sut_run.proofs.Delivered.{IsStop, done-answers, done-stands, failed-answers, failed-reads, failed-stands, failed-writes, is-stop, whatever}
+use Rattle.sut_run.specs.Ends.{AreLines, Stands}
+use Rattle.sut_run.proofs.Delivered.{IsStop, done-answers, done-stands, failed-answers, failed-reads, failed-stands, failed-writes, is-stop, sent-same, whatever}
+use Rattle.sut_run.proofs.Printed.{done-prints, stopped-prints}
 use Rattle.sut_run.proofs.Lists.{names_in}
 use Rattle.sut_run.proofs.Made.{given-made, made-names, memory-told}
 use Rattle.sut_run.proofs.generating.run_generate.Goals as goal
@@ -63,3 +64,17 @@ returns-clause-migrated g c e =
 pub returns-clause-used : goal.returns-clause-used
 returns-clause-used g c e =
     absurd (subst IsStop e (is-stop (map (λ (output : Output). output.name) c.in-Ok.made.outputs.items) c.in-Err-deliver.stopped c.in-Err-deliver.ensures.stops))
+
+pub returns-in-Err-clause-printed : goal.returns-in-Err-clause-printed
+returns-in-Err-clause-printed g c =
+    λ (seats : List SeatFacts). sent-same (g.K.Sink.sent c.args.out.now)
+
+pub returns-in-Ok-deliver-clause-printed : goal.returns-in-Ok-deliver-clause-printed
+returns-in-Ok-deliver-clause-printed g c =
+    λ (seats : List SeatFacts). done-prints (AreLines seats (Generate c.args.seed c.args.products c.args.industries) (g.F.Shelf.files c.args.shelf.now)) Generated tt c.in-Ok.made.lines.items (record { input = to_generate c.args.seed c.args.products c.args.industries; delivery = record { texts = texts_in c.in-Ok.made.outputs.items; lines = c.in-Ok.made.lines.items }; given = given-made seats c.args.seed c.args.products c.args.industries (g.F.Shelf.files c.args.shelf.now); gives = (refl, c.in-Ok.ensures); printed = refl })
+    _ _ c.in-Ok-deliver.ensures.sent
+
+pub returns-clause-printed : goal.returns-clause-printed
+returns-clause-printed g c =
+    λ (seats : List SeatFacts). stopped-prints (AreLines seats (Generate c.args.seed c.args.products c.args.industries) (g.F.Shelf.files c.args.shelf.now)) Generated c.in-Ok.made.lines.items (record { input = to_generate c.args.seed c.args.products c.args.industries; delivery = record { texts = texts_in c.in-Ok.made.outputs.items; lines = c.in-Ok.made.lines.items }; given = given-made seats c.args.seed c.args.products c.args.industries (g.F.Shelf.files c.args.shelf.now); gives = (refl, c.in-Ok.ensures); printed = refl })
+    (map (λ (output : Output). output.name) c.in-Ok.made.outputs.items) c.in-Err-deliver.stopped c.in-Err-deliver.ensures.stops _ _ c.in-Err-deliver.ensures.sent

@@ -11,6 +11,8 @@ use Rattle.sut_run.specs.Inputs.{input_of}
 use Rattle.sut_run.specs.Ends.{AnswersInput, IsDone, Stands}
 use Rattle.sut_run.specs.Headlines.{Headline, IsChecked, MayBeInfeasible, WritesCut, WritesLeast}
 use Rattle.sut_run.proofs.Named.{complete-told, for-command, no-command-told, read-names, some-command, write-names}
+use Rattle.sut_run.proofs.Delivered.{sent-same}
+use Rattle.sut_run.proofs.Printed.{command-prints}
 use Rattle.sut_run.proofs.Words.{has_size, words-sized}
 use Rattle.sut_run.proofs.runs.run.Goals as goal
 
@@ -205,3 +207,39 @@ returns-in-None-clause-balanced g c =
 pub returns-in-None-clause-infeasible : goal.returns-in-None-clause-infeasible
 returns-in-None-clause-infeasible g c =
     subst (λ o. IfSome o (λ (k : Command). Usage ≡ Infeasible → MayBeInfeasible k × (IsChecked k → Told (g.F.Shelf.files c.args.shelf.now) (g.F.Shelf.files c.args.shelf.now) (Headline (map (λ b. new_seat ((g.dyn-1.0.entry b.vtable).1.name b.value) ((g.dyn-1.0.entry b.vtable).1.rule b.value)) c.args.reviewers.items) k WritesCut)))) (sym (sym c.command_named.ensures ∙ c.in-None.is)) tt
+
+pub returns-in-Some-Balance-clause-untouched : goal.returns-in-Some-Balance-clause-untouched
+returns-in-Some-Balance-clause-untouched g c e =
+    absurd (some-command (command_of (map string_bytes c.args.words.now)) Balance (sym c.command_named.ensures ∙ c.in-Some-Balance.is ∙ ap Some c.in-Some-Balance.field-0-is) e)
+
+pub returns-in-Some-Balance-clause-printed : goal.returns-in-Some-Balance-clause-printed
+returns-in-Some-Balance-clause-printed g c =
+    command-prints (command_of (map string_bytes c.args.words.now)) Balance (sym c.command_named.ensures ∙ c.in-Some-Balance.is ∙ ap Some c.in-Some-Balance.field-0-is) (map (λ b. new_seat ((g.dyn-1.0.entry b.vtable).1.name b.value) ((g.dyn-1.0.entry b.vtable).1.rule b.value)) c.args.reviewers.items) (g.F.Shelf.files c.args.shelf.now) c.run_balance.result _ _ c.run_balance.ensures.printed
+
+pub returns-in-Some-Edit-clause-untouched : goal.returns-in-Some-Edit-clause-untouched
+returns-in-Some-Edit-clause-untouched g c e =
+    absurd (some-command (command_of (map string_bytes c.args.words.now)) Edit (sym c.command_named.ensures ∙ c.in-Some-Edit.is ∙ ap Some c.in-Some-Edit.field-0-is) e)
+
+pub returns-in-Some-Edit-clause-printed : goal.returns-in-Some-Edit-clause-printed
+returns-in-Some-Edit-clause-printed g c =
+    command-prints (command_of (map string_bytes c.args.words.now)) Edit (sym c.command_named.ensures ∙ c.in-Some-Edit.is ∙ ap Some c.in-Some-Edit.field-0-is) (map (λ b. new_seat ((g.dyn-1.0.entry b.vtable).1.name b.value) ((g.dyn-1.0.entry b.vtable).1.rule b.value)) c.args.reviewers.items) (g.F.Shelf.files c.args.shelf.now) c.run_edit.result _ _ c.run_edit.ensures.printed
+
+pub returns-in-Some-Migrate-clause-untouched : goal.returns-in-Some-Migrate-clause-untouched
+returns-in-Some-Migrate-clause-untouched g c e =
+    absurd (some-command (command_of (map string_bytes c.args.words.now)) Migrate (sym c.command_named.ensures ∙ c.in-Some-Migrate.is ∙ ap Some c.in-Some-Migrate.field-0-is) e)
+
+pub returns-in-Some-Migrate-clause-printed : goal.returns-in-Some-Migrate-clause-printed
+returns-in-Some-Migrate-clause-printed g c =
+    command-prints (command_of (map string_bytes c.args.words.now)) Migrate (sym c.command_named.ensures ∙ c.in-Some-Migrate.is ∙ ap Some c.in-Some-Migrate.field-0-is) (map (λ b. new_seat ((g.dyn-1.0.entry b.vtable).1.name b.value) ((g.dyn-1.0.entry b.vtable).1.rule b.value)) c.args.reviewers.items) (g.F.Shelf.files c.args.shelf.now) c.run_migrate.result _ _ (c.run_migrate.ensures.printed (map (λ b. new_seat ((g.dyn-1.0.entry b.vtable).1.name b.value) ((g.dyn-1.0.entry b.vtable).1.rule b.value)) c.args.reviewers.items))
+
+pub returns-in-Some-Generate-clause-untouched : goal.returns-in-Some-Generate-clause-untouched
+returns-in-Some-Generate-clause-untouched g c e =
+    absurd (some-command (command_of (map string_bytes c.args.words.now)) (Generate c.in-Some-Generate.seed c.in-Some-Generate.products c.in-Some-Generate.industries) (sym c.command_named.ensures ∙ c.in-Some-Generate.is ∙ ap Some c.in-Some-Generate.field-0-is) e)
+
+pub returns-in-Some-Generate-clause-printed : goal.returns-in-Some-Generate-clause-printed
+returns-in-Some-Generate-clause-printed g c =
+    command-prints (command_of (map string_bytes c.args.words.now)) (Generate c.in-Some-Generate.seed c.in-Some-Generate.products c.in-Some-Generate.industries) (sym c.command_named.ensures ∙ c.in-Some-Generate.is ∙ ap Some c.in-Some-Generate.field-0-is) (map (λ b. new_seat ((g.dyn-1.0.entry b.vtable).1.name b.value) ((g.dyn-1.0.entry b.vtable).1.rule b.value)) c.args.reviewers.items) (g.F.Shelf.files c.args.shelf.now) c.run_generate.result _ _ (c.run_generate.ensures.printed (map (λ b. new_seat ((g.dyn-1.0.entry b.vtable).1.name b.value) ((g.dyn-1.0.entry b.vtable).1.rule b.value)) c.args.reviewers.items))
+
+pub returns-in-None-clause-printed : goal.returns-in-None-clause-printed
+returns-in-None-clause-printed g c =
+    sent-same (g.K.Sink.sent c.args.out.now)

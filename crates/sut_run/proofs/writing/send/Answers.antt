@@ -7,6 +7,7 @@ use Rattle.sut_run.specs.declared.writing.Output.{Output}
 use Rattle.sut_run.specs.Outputs.{texts_in}
 use Rattle.sut_run.specs.Steps.{Delivered, Sends, WritesEnd}
 use Rattle.sut_run.proofs.Delivered.{stop-stands, stops-delivery, stops-no-sink}
+use Rattle.sut_run.proofs.Printed.{stop-puts}
 use Rattle.sut_run.proofs.writing.send.Goals as goal
 
 pub returns-in-Err-clause-stands : goal.returns-in-Err-clause-stands
@@ -33,3 +34,7 @@ returns-in-Err-put-clause-stands g c =
     told_as (WrittenAll (texts_in c.args.outputs.now))
     (λ (old new : Files). WrittenAll (texts_in c.args.outputs.now) old new × Told (g.K.Sink.sent c.args.out.now) (g.K.Sink.sent c.put.new.self) (AppendsPart c.args.lines.now))
     (λ old new w. (w, c.in-Err-put.ensures.sent)) _ _ c.in-Ok.ensures.ends
+
+pub returns-in-Err-clause-sent : goal.returns-in-Err-clause-sent
+returns-in-Err-clause-sent g c =
+    stop-puts c.args.lines.now (map (λ (output : Output). output.name) c.args.outputs.now) c.in-Err.stopped c.in-Err.ensures.writes (g.K.Sink.sent c.args.out.now)

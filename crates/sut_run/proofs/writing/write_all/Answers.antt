@@ -1,6 +1,7 @@
 use Rattle.std.proofs.Common.{◌≡◌, ◌<◌, ◌+◌, Some, Err, length, take, arith}
 use Rattle.sut_outside.specs.Files.{SameOtherFiles}
 use Rattle.sut_outside.specs.Deliveries.{WrittenAll}
+use Rattle.sut_outside.proofs.NoneFailed.{both_stay}
 use Rattle.sut_outside.proofs.Told.{told_then}
 use Rattle.sut_run.specs.Outputs.{texts_in}
 use Rattle.sut_run.specs.Steps.{WritesEnd}
@@ -17,6 +18,10 @@ returns-in-Err-clause-ends g c =
     (stopped_step outputs i c.output-item.result below c.output-item.is c.in-Err.stopped c.in-Err.ensures.stopped)
     _ _ _ c.loop-output.invariant.written c.in-Err.ensures.written
 
+pub returns-in-Err-clause-stays : goal.returns-in-Err-clause-stays
+returns-in-Err-clause-stays g c other =
+    both_stay c.loop-output.invariant.stays (c.in-Err.ensures.stays other)
+
 pub loop-output-preserved : goal.loop-output-preserved
 loop-output-preserved g c =
     let outputs = c.args.outputs.now in
@@ -30,4 +35,5 @@ loop-output-preserved g c =
           (written_step outputs i output below c.output-item.is)
           _ _ _ c.loop-output.invariant.written c.in-Ok.ensures.written;
       later = omega arith;
+      stays = both_stay c.loop-output.invariant.stays (c.in-Ok.ensures.stays (λ h. h));
     }
