@@ -1,6 +1,6 @@
 -- GDP by the printed numbers: outputs, inputs, taxes, items, final uses and imports, added up.
-use Rattle.std.proofs.Common.{◌≡◌, Bool, true, false, ℤ, pos, ◌+ℤ◌, ◌-ℤ◌, ◌*ℤ◌, length, refl, sym, ◌∙◌}
-use Rattle.std.specs.Prelude.{◌==◌, ◌&&◌}
+use Rattle.std.proofs.Common.{◌≡◌, true, ℤ, ◌+ℤ◌, ◌-ℤ◌, ◌*ℤ◌, length, refl, sym}
+use Rattle.std.specs.Prelude.{◌==◌}
 use Rattle.std.proofs.Math.IntN.{zero-*ℤ}
 use Rattle.sut_classes.specs.ClassLists.{ClassLists}
 use Rattle.sut_classes.specs.Groups.{Groups}
@@ -19,7 +19,7 @@ use Rattle.sut_tables.specs.Gdp.{expenditure, income, is_added, is_any_industry,
 use Rattle.sut_tables.specs.ProblemFacts.{ProblemFacts}
 use Rattle.sut_tables.specs.TableFacts.{TableFacts}
 use Rattle.sut_tables.specs.Problems.{IsProblem, IsTableOf, groups}
-use Rattle.sut_tables.specs.Values.{int_sum_by, sum_where, value_of}
+use Rattle.sut_tables.specs.Values.{int_sum_by, sum_where}
 use Rattle.sut_tables.proofs.IntSums.{sum-same}
 use Rattle.sut_tables.proofs.Nodes.{where_so}
 use Rattle.sut_tables.proofs.Paths.{one-*ℤ}

@@ -1,10 +1,10 @@
 -- The total of a group is the sum over its members.
-use Rattle.std.proofs.Common.{◌≡◌, ℕ, Bool, true, false, ℤ, pos, ◌*ℤ◌, List, length, map, refl, sym, ap, ◌∙◌}
+use Rattle.std.proofs.Common.{◌≡◌, ℕ, Bool, true, false, ℤ, pos, ◌*ℤ◌, length, map, refl, sym, ap, ◌∙◌}
 use Rattle.std.specs.Prelude.{◌==◌, ◌&&◌, filter, nat_lt}
 use Rattle.std.proofs.lemmas.Bool.{eqb-true}
 use Rattle.std.proofs.Math.IntN.{zero-*ℤ}
 use Rattle.sut_classes.specs.ClassLists.{ClassLists}
-use Rattle.sut_classes.specs.Groups.{Groups, groups_of}
+use Rattle.sut_classes.specs.Groups.{groups_of}
 use Rattle.sut_classes.specs.declared.ids.Column.{Column}
 use Rattle.sut_classes.specs.declared.ids.IndustryGroupId.{IndustryGroupId}
 use Rattle.sut_classes.specs.declared.ids.IndustryId.{IndustryId}
@@ -14,19 +14,13 @@ use Rattle.sut_classes.specs.declared.ids.ProductGroupId.{ProductGroupId}
 use Rattle.sut_classes.specs.declared.ids.ProductId.{ProductId}
 use Rattle.sut_classes.specs.declared.ids.TaxId.{TaxId}
 use Rattle.sut_measures.specs.Sums.{is_in, is_industry_in, same_column}
-use Rattle.sut_measures.specs.declared.measures.Cell.{Cell}
 use Rattle.sut_measures.specs.declared.measures.Cell.TheVariants as cell
-use Rattle.sut_measures.specs.declared.measures.Measure.{Measure}
 use Rattle.sut_measures.specs.declared.measures.Measure.TheVariants as measure
 use Rattle.sut_measures.specs.declared.measures.Total.TheVariants as total
-use Rattle.sut_tables.specs.ProblemFacts.{ProblemFacts}
-use Rattle.sut_tables.specs.TableFacts.{TableFacts}
-use Rattle.sut_tables.specs.Problems.{IsProblem, IsTableOf}
 use Rattle.sut_tables.specs.Values.{int_sum_by}
-use Rattle.sut_tables.proofs.Conservation.{part}
 use Rattle.sut_tables.proofs.IntSums.{sum-same}
 use Rattle.sut_tables.proofs.Nodes.{where_so}
-use Rattle.sut_write.specs.Places.{below, industries, products}
+use Rattle.sut_write.specs.Places.{below}
 use Rattle.sut_laws.specs.Balances.{GroupSums, industries_in, products_in}
 use Rattle.sut_laws.proofs.PlaceSums.{Counts, and-false, and-left, and-right, and-true, and-turned, nothing-over, picked, picked-times, sum-filter, total-of_places}
 

@@ -3,6 +3,7 @@ mod GdpSums
 mod PrintedLines
 mod PrintedText
 mod Prices
+mod MarginColumns
 mod GroupSums
 mod LiveLists
 mod Priced

@@ -1,5 +1,5 @@
 -- From basic to purchasers' prices, over the cells of a table.
-use Rattle.std.proofs.Common.{◌≡◌, Bool, true, false, ℤ, pos, ◌+ℤ◌, ◌*ℤ◌, length, refl, sym, ap, ◌∙◌, arith}
+use Rattle.std.proofs.Common.{◌≡◌, Bool, false, ℤ, pos, ◌+ℤ◌, ◌*ℤ◌, length, refl, sym, ap, ◌∙◌, arith}
 use Rattle.std.specs.Prelude.{◌==◌, ◌&&◌}
 use Rattle.std.proofs.lemmas.Int.{ints}
 use Rattle.std.proofs.Math.IntN.{zero-*ℤ}
@@ -21,7 +21,7 @@ use Rattle.sut_tables.specs.declared.tables.Held.{Held}
 use Rattle.sut_tables.specs.ProblemFacts.{ProblemFacts}
 use Rattle.sut_tables.specs.TableFacts.{TableFacts}
 use Rattle.sut_tables.specs.Problems.{IsProblem, IsTableOf, groups}
-use Rattle.sut_tables.specs.Values.{int_sum_by, sum_where, value_of}
+use Rattle.sut_tables.specs.Values.{int_sum_by}
 use Rattle.sut_tables.proofs.Conservation.{Sorted-table, value-parts}
 use Rattle.sut_tables.proofs.IntSums.{sum-add, sum-same}
 use Rattle.sut_tables.proofs.Nodes.{where_so}

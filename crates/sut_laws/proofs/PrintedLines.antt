@@ -1,5 +1,5 @@
 -- The lines of the accounts, and the numbers that they spell.
-use Rattle.std.proofs.Common.{◌≡◌, ◌<◌, ◌^◌, ◌++◌, ◌∷◌, ◌∙◌, ℕ, Bool, true, ℤ, pos, negsuc, neg_ℤ, ◌+ℤ◌, ◌-ℤ◌, List, [], cond, map, refl, sym, ap, append_assoc, append-nil, arith, codes}
+use Rattle.std.proofs.Common.{◌≡◌, ◌<◌, ◌^◌, ◌++◌, ◌∷◌, ◌∙◌, Bool, true, ℤ, pos, negsuc, neg_ℤ, ◌+ℤ◌, ◌-ℤ◌, List, [], cond, map, refl, sym, ap, append_assoc, append-nil, arith, codes}
 use Rattle.std.specs.Prelude.{All, filter}
 use Rattle.std.specs.List.{flat_map}
 use Rattle.std.proofs.lemmas.Int.{ints}
@@ -9,8 +9,7 @@ use Rattle.sut_text.specs.Number.{whole_of}
 use Rattle.sut_text.specs.Text.{whole_text}
 use Rattle.sut_text.proofs.Spelling.{whole-spelled}
 use Rattle.sut_records.specs.RecordList.{Fields}
-use Rattle.sut_classes.specs.ClassLists.{ClassLists}
-use Rattle.sut_measures.specs.Sums.{is_any_final, is_bought}
+use Rattle.sut_measures.specs.Sums.{is_bought}
 use Rattle.sut_measures.specs.declared.measures.Measure.{Measure}
 use Rattle.sut_measures.specs.declared.measures.Measure.TheVariants as measure
 use Rattle.sut_measures.specs.declared.measures.Total.TheVariants as total

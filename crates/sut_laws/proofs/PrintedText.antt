@@ -1,5 +1,5 @@
 -- The file of accounts reads back as its lines.
-use Rattle.std.proofs.Common.{◌≡◌, ◌<◌, ◌≤◌, ◌^◌, ◌++◌, ◌∷◌, ◌∙◌, ℕ, true, false, ℤ, List, [], map, refl, sym, ap, subst, arith, codes}
+use Rattle.std.proofs.Common.{◌≡◌, ◌<◌, ◌^◌, ◌++◌, ◌∷◌, ℕ, true, false, ℤ, List, [], map, refl, sym, ap, subst, arith, codes}
 use Rattle.std.specs.Prelude.{All, IsOk, is_ok}
 use Rattle.std.specs.List.{flat_map}
 use Rattle.std.proofs.lemmas.List.Elements.{All-append, All-cons, All-head, All-map, All-nil, All-tail, All-weaker}
@@ -9,16 +9,15 @@ use Rattle.sut_text.specs.Number.{whole_of}
 use Rattle.sut_text.specs.Text.{file_text, needs_quotes, tagged}
 use Rattle.sut_text.proofs.Spelling.{whole-spelled}
 use Rattle.sut_records.specs.Plain.{ArePlainRows, IsPlainRow}
-use Rattle.sut_records.specs.RecordList.{Fields, field, records_of}
+use Rattle.sut_records.specs.RecordList.{Fields, field}
 use Rattle.sut_records.proofs.PlainText.{printed-file}
-use Rattle.sut_classes.specs.ClassLists.{ClassLists}
 use Rattle.sut_classes.specs.Kept.{IsClasses}
 use Rattle.sut_classes.specs.declared.ids.FinalId.{FinalId}
 use Rattle.sut_classes.specs.declared.ids.IndustryId.{IndustryId}
 use Rattle.sut_classes.specs.declared.ids.ItemId.{ItemId}
 use Rattle.sut_classes.specs.declared.ids.ProductId.{ProductId}
 use Rattle.sut_measures.specs.Names.{final_code, industry_code, item_code, product_code}
-use Rattle.sut_measures.specs.Sums.{is_any_final, is_bought}
+use Rattle.sut_measures.specs.Sums.{is_bought}
 use Rattle.sut_measures.specs.declared.measures.Measure.TheVariants as measure
 use Rattle.sut_measures.specs.declared.measures.Total.TheVariants as total
 use Rattle.sut_tables.specs.Gdp.{expenditure, income, is_any_industry, is_make, is_tax, production}

@@ -1,7 +1,7 @@
 -- The balances of a table that meets the identities (SNA 2008, 6.8 and chapter 14), and the sums of groups. Every `Problem` is as
 -- `IsProblem` asks (`Problem::kept`); `Table::zeros` and `read_balanced` give tables of a problem, and where `first_open` answers
 -- none a table meets the identities.
-use Rattle.std.specs.Prelude.{◌≡◌, ℤ, ◌+ℤ◌, List, filter}
+use Rattle.std.specs.Prelude.{◌≡◌, ◌+ℤ◌, List, filter}
 use Rattle.sut_classes.specs.ClassLists.{ClassLists}
 use Rattle.sut_classes.specs.declared.ids.Column.{Column}
 use Rattle.sut_classes.specs.declared.ids.Column.TheVariants as column
@@ -54,14 +54,14 @@ abbrev pub GroupSums : Type 0
 GroupSums =
     (p : ProblemFacts) (t : TableFacts) → IsProblem p → IsTableOf p t
     → ((g : ProductGroupId) (j : IndustryId)
-        → total_of t (total.MakeGroup g j) ≡ int_sum_by (λ i. cell_value t (cell.Make i j)) (products_in p.classes g))
+    → total_of t (total.MakeGroup g j) ≡ int_sum_by (λ i. cell_value t (cell.Make i j)) (products_in p.classes g))
     × ((g : ProductGroupId)
-        → total_of t (total.ImportGroup g) ≡ int_sum_by (λ i. cell_value t (cell.Import i)) (products_in p.classes g))
+    → total_of t (total.ImportGroup g) ≡ int_sum_by (λ i. cell_value t (cell.Import i)) (products_in p.classes g))
     × ((g : ProductGroupId) (q : Column)
-        → total_of t (total.PurchaseGroup g q) ≡ int_sum_by (λ i. total_of t (total.Purchase i q)) (products_in p.classes g))
+    → total_of t (total.PurchaseGroup g q) ≡ int_sum_by (λ i. total_of t (total.Purchase i q)) (products_in p.classes g))
     × ((k : MarginId) (g : ProductGroupId)
-        → total_of t (total.MarginGroup k g) ≡ int_sum_by (λ i. total_of t (total.MarginProduct k i)) (products_in p.classes g))
+    → total_of t (total.MarginGroup k g) ≡ int_sum_by (λ i. total_of t (total.MarginProduct k i)) (products_in p.classes g))
     × ((x : TaxId) (g : ProductGroupId)
-        → total_of t (total.TaxGroup x g) ≡ int_sum_by (λ i. total_of t (total.TaxProduct x i)) (products_in p.classes g))
+    → total_of t (total.TaxGroup x g) ≡ int_sum_by (λ i. total_of t (total.TaxProduct x i)) (products_in p.classes g))
     × ((v : ItemId) (h : IndustryGroupId)
-        → total_of t (total.ItemGroup v h) ≡ int_sum_by (λ j. cell_value t (cell.Added v j)) (industries_in p.classes h))
+    → total_of t (total.ItemGroup v h) ≡ int_sum_by (λ j. cell_value t (cell.Added v j)) (industries_in p.classes h))

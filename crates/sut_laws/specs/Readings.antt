@@ -35,14 +35,14 @@ FilesReadBack =
 abbrev pub MeasureNamesReadBack : Type 0
 MeasureNamesReadBack =
     ((cs : ClassLists) → IsClasses cs → (m : Measure) → IsTrue (fits cs m)
-        → measure_of cs (measure_name cs m).kind (measure_name cs m).a (measure_name cs m).b (measure_name cs m).c ≡ Ok m)
+    → measure_of cs (measure_name cs m).kind (measure_name cs m).a (measure_name cs m).b (measure_name cs m).c ≡ Ok m)
     × ((cs : ClassLists) (kind a b c : List ℕ) (m : Measure) → measure_of cs kind a b c ≡ Ok m
-        → IsTrue (fits cs m) × (name_fields cs m ≡ kind ∷ a ∷ b ∷ c ∷ []))
+    → IsTrue (fits cs m) × (name_fields cs m ≡ kind ∷ a ∷ b ∷ c ∷ []))
 
 -- So with accounts.
 abbrev pub AccountNamesReadBack : Type 0
 AccountNamesReadBack =
     ((cs : ClassLists) → IsClasses cs → (x : Account) → IsTrue (account_fits cs x)
-        → account_of cs (account_name cs x).word (account_name cs x).a (account_name cs x).b ≡ Ok x)
+    → account_of cs (account_name cs x).word (account_name cs x).a (account_name cs x).b ≡ Ok x)
     × ((cs : ClassLists) (word a b : List ℕ) (x : Account) → account_of cs word a b ≡ Ok x
-        → IsTrue (account_fits cs x) × (account_fields cs x ≡ word ∷ a ∷ b ∷ []))
+    → IsTrue (account_fits cs x) × (account_fields cs x ≡ word ∷ a ∷ b ∷ []))

@@ -1,7 +1,7 @@
 -- From basic to purchasers' prices (SNA 2008, 6.51 and 6.64, and chapter 14; UN Handbook on Supply and Use Tables, 2018,
 -- chapter 7). Subsidies are taxes below 0. Every `Problem` is as `IsProblem` asks (`Problem::kept`); `Table::zeros` and
 -- `read_balanced` give tables of a problem, and where `first_open` answers none a table meets the identities.
-use Rattle.std.specs.Prelude.{◌≡◌, ℤ, pos, ◌+ℤ◌}
+use Rattle.std.specs.Prelude.{◌≡◌, ℕ, Bool, true, pos, ◌+ℤ◌, List, All, bytes_eq, codes, take}
 use Rattle.sut_classes.specs.declared.ids.Column.{Column}
 use Rattle.sut_classes.specs.declared.ids.MarginId.{MarginId}
 use Rattle.sut_classes.specs.declared.ids.ProductId.{ProductId}
@@ -15,8 +15,7 @@ use Rattle.sut_tables.specs.TableFacts.{TableFacts}
 use Rattle.sut_tables.specs.Values.{int_sum_by}
 use Rattle.sut_write.specs.Numbers.{cell_value, supply_at_purchasers, total_of}
 use Rattle.sut_write.specs.Places.{columns, margins, products, taxes}
-use Rattle.sut_write.specs.Supply.{column_sum}
-use Rattle.sut_write.specs.declared.supply.SupplyColumn.TheVariants as supply
+use Rattle.sut_write.specs.Supply.{column_sum, supply_columns, supply_heading}
 
 -- Over every table of a problem: a purchase at purchasers' prices is its basic value, plus its margins of all kinds, plus its
 -- taxes of all kinds less subsidies.
@@ -40,12 +39,16 @@ MarginTotals =
     (p : ProblemFacts) (t : TableFacts) → IsProblem p → IsTableOf p t → (k : MarginId)
     → total_of t (total.MarginTotal k) ≡ int_sum_by (λ i. total_of t (total.MarginProduct k i)) (products p.classes)
 
--- Where the identities hold, each margin column of the supply table sums to 0: the products that provide a margin offset those
--- that bear it. `supply_sums` prints the sum.
+-- a heading of the supply table that stands over net margins of a kind: `margin:` and its code
+abbrev pub is_margin_heading : List ℕ → Bool
+is_margin_heading text = bytes_eq (take 7 text) (codes "margin:")
+
+-- Where the identities hold, each column of the supply table with such a heading sums to 0: the products that provide a margin
+-- offset those that bear it. (`supply_sums` prints the sums.)
 abbrev pub MarginColumnsCancel : Type 0
 MarginColumnsCancel =
-    (p : ProblemFacts) (t : TableFacts) → IsProblem p → IsTableOf p t → MeetsIdentities t → (k : MarginId)
-    → column_sum p.classes t (supply.Margin k) ≡ pos 0
+    (p : ProblemFacts) (t : TableFacts) → IsProblem p → IsTableOf p t → MeetsIdentities t
+    → All (λ c. is_margin_heading (supply_heading p.classes c) ≡ true → column_sum p.classes t c ≡ pos 0) (supply_columns p.classes)
 
 -- Where the identities hold, a product's supply at purchasers' prices is the sum of its purchases over all uses.
 abbrev pub SupplyIsPurchased : Type 0

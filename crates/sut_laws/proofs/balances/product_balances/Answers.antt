@@ -1,4 +1,4 @@
-use Rattle.std.proofs.Common.{◌≡◌, ◌∙◌, ◌+ℤ◌, length, sym}
+use Rattle.std.proofs.Common.{◌∙◌, ◌+ℤ◌, length, sym}
 use Rattle.sut_classes.specs.declared.ids.Column.TheVariants as column
 use Rattle.sut_classes.specs.declared.ids.FinalId.{FinalId}
 use Rattle.sut_classes.specs.declared.ids.IndustryId.{IndustryId}
