@@ -34,7 +34,7 @@ impl Ended {
 }
 
 // The program with these arguments, where standard output takes `room` bytes.
-fn ended(
+fn program(
     alloc: Global,
     args: &[&str],
     shelf: &mut SteadyShelf,
@@ -111,7 +111,7 @@ fn answers_and_faults(rt: HostRuntime) -> Result<(), Fail> {
                 (FileName::SourceCsv, source.as_str()),
             ],
         )?;
-        let ended = ended(rt.alloc(), &["sut", word], &mut shelf, room)?;
+        let ended = program(rt.alloc(), &["sut", word], &mut shelf, room)?;
         assert!(rt; ended.is(code, out, err), "{word}, {code}");
     }
     Ok(())
@@ -133,7 +133,7 @@ fn other_words(rt: HostRuntime) -> Result<(), Fail> {
     let head = format!(in rt.alloc(); "sut: usage: a command of sut\nsut {VERSION}: balances ")?;
     for args in OTHER_WORDS {
         let mut shelf = SteadyShelf::new(rt.alloc());
-        let ended = ended(rt.alloc(), args, &mut shelf, 1000)?;
+        let ended = program(rt.alloc(), args, &mut shelf, 1000)?;
         assert_eq!(rt; ended.code, ExitCode::from(2), "{args:?}");
         assert!(rt; ended.out.text().is_empty());
         assert!(rt; ended.err.text().starts_with(head.as_bytes()));
@@ -155,12 +155,12 @@ const COMMANDS: [(&str, &[&str]); 4] = [
 #[test]
 fn help_names_the_commands(rt: HostRuntime) -> Result<(), Fail> {
     let mut none = SteadyShelf::new(rt.alloc());
-    let usage = ended(rt.alloc(), &["sut", "help"], &mut none, 1000)?;
+    let usage = program(rt.alloc(), &["sut", "help"], &mut none, 1000)?;
     let help = str::from_utf8(usage.err.text()).unwrap_or("");
     for (line, args) in COMMANDS {
         assert!(rt; help.contains(line), "{line}");
         let mut shelf = SteadyShelf::new(rt.alloc());
-        let ended = ended(rt.alloc(), args, &mut shelf, 1000)?;
+        let ended = program(rt.alloc(), args, &mut shelf, 1000)?;
         assert_ne!(rt; ended.code, ExitCode::from(2), "{line}");
     }
     for code in [0, 1, 2, 3, 5, 6, 7, 8, 10, 11, 12, 13, 14] {

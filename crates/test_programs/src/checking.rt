@@ -27,7 +27,7 @@ impl Drop for Ended {
 }
 
 // The program with these arguments.
-fn ended(alloc: Global, args: &[&str], shelf: &mut SteadyShelf) -> Result<Ended, Fail> {
+fn program(alloc: Global, args: &[&str], shelf: &mut SteadyShelf) -> Result<Ended, Fail> {
     let args = words_of(alloc, args)?.into_iter();
     let mut out = MemorySink::new(alloc, 1000, Vec::new(alloc))?;
     let mut err = MemorySink::new(alloc, 10_000, Vec::new(alloc))?;
@@ -77,7 +77,7 @@ const CASES: [Case; 2] = [
 fn all_words_are_passed(rt: HostRuntime) -> Result<(), Fail> {
     let mut shelf = edited_year(rt.alloc())?;
     for (args, code, out, err) in CASES {
-        let ended = ended(rt.alloc(), args, &mut shelf)?;
+        let ended = program(rt.alloc(), args, &mut shelf)?;
         assert_eq!(rt; ended.code, ExitCode::from(code), "{args:?}");
         assert_eq!(rt; ended.out.text(), out.as_bytes(), "{args:?}");
         assert_eq!(rt; ended.err.text(), err.as_bytes(), "{args:?}");
@@ -100,7 +100,7 @@ fn other_words(rt: HostRuntime) -> Result<(), Fail> {
     )?;
     for args in OTHER_WORDS {
         let mut shelf = SteadyShelf::new(rt.alloc());
-        let ended = ended(rt.alloc(), args, &mut shelf)?;
+        let ended = program(rt.alloc(), args, &mut shelf)?;
         assert_eq!(rt; ended.code, ExitCode::from(2), "{args:?}");
         assert!(rt; ended.out.text().is_empty());
         assert!(rt; ended.err.text().starts_with(head.as_bytes()));
@@ -111,7 +111,7 @@ fn other_words(rt: HostRuntime) -> Result<(), Fail> {
 #[test]
 fn help_names_the_word(rt: HostRuntime) -> Result<(), Fail> {
     let mut shelf = SteadyShelf::new(rt.alloc());
-    let usage = ended(rt.alloc(), &["sutcheck", "help"], &mut shelf)?;
+    let usage = program(rt.alloc(), &["sutcheck", "help"], &mut shelf)?;
     let help = str::from_utf8(usage.err.text()).unwrap_or("");
     assert!(rt; help.contains("\nUsage: sutcheck [edited]\n"));
     assert!(rt; help.contains("\n  edited  "));
