@@ -7,7 +7,7 @@ use Rattle.sut_status.specs.Codes.{code}
 use Rattle.sut_review.specs.Seats.{SeatFacts}
 use Rattle.sut_run.specs.Commands.{command_of}
 use Rattle.sut_run.specs.Ends.{AnswersInput, Stands}
-use Rattle.sut_run.specs.Headlines.{Headline, IsChecked, WritesCut, WritesLeast}
+use Rattle.sut_run.specs.Headlines.{Headline, IsChecked, MayBeInfeasible, WritesCut, WritesLeast}
 use Rattle.sut_program.specs.ErrorTexts.{Says}
 
 -- the number and the text of a status
@@ -23,5 +23,5 @@ pub record Runs (words : List (List ℕ)) (old new : Option Files) (before after
   pub refused : command_of words ≡ None → (status ≡ Usage) ⊎ (status ≡ NoMemory)
   pub input : IfSome (command_of words) (λ c. IfSome old (λ files. AnswersInput seats c files status))
   pub stands : IfSome (command_of words) (λ c. Told old new (Stands seats c status before after))
-  pub balanced : IfSome (command_of words) (λ c. status ≡ Balanced → Told old new (Headline seats c WritesLeast))
-  pub infeasible : IfSome (command_of words) (λ c. status ≡ Infeasible → IsChecked c → Told old new (Headline seats c WritesCut))
+  pub balanced : IfSome (command_of words) (λ c. status ≡ Balanced → IsChecked c × Told old new (Headline seats c WritesLeast))
+  pub infeasible : IfSome (command_of words) (λ c. status ≡ Infeasible → MayBeInfeasible c × (IsChecked c → Told old new (Headline seats c WritesCut)))
