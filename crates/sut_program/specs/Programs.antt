@@ -1,6 +1,7 @@
 -- How the program ends: with the code and the text of a status, and what that status says of the words and of the files.
 use Rattle.std.specs.Prelude.{◌≡◌, ◌⊎◌, ℕ, List, Option, None, IfSome}
 use Rattle.sut_outside.specs.Files.{Files, Told}
+use Rattle.sut_outside.specs.Causes.{Rose}
 use Rattle.sut_status.specs.declared.statuses.Status.{Status}
 use Rattle.sut_status.specs.declared.statuses.Status.TheVariants.{NoMemory, Usage, Balanced, Infeasible}
 use Rattle.sut_status.specs.Codes.{code}
@@ -8,12 +9,13 @@ use Rattle.sut_review.specs.Seats.{SeatFacts}
 use Rattle.sut_run.specs.Commands.{command_of}
 use Rattle.sut_run.specs.Ends.{AnswersInput, Stands}
 use Rattle.sut_run.specs.Headlines.{Headline, IsChecked, MayBeInfeasible, WritesCut, WritesLeast}
-use Rattle.sut_program.specs.ErrorTexts.{Says}
+use Rattle.sut_program.specs.ErrorTexts.{Says, SaysAll}
 
--- the number and the text of a status
-pub record EndsWith (before after : Option (List ℕ)) (exit : ℕ) (status : Status) : Type 0 where
+-- the number of a status, and its text on standard error: all of it, unless the device fails
+pub record EndsWith (before after : Option (List ℕ)) (faults_before faults_after exit : ℕ) (status : Status) : Type 0 where
   pub code : exit ≡ code status
   pub said : Told before after (Says status)
+  pub whole : ¬ Rose faults_before faults_after → Told before after (SaysAll status)
 
 -- What a status says of the words behind the program's name, of the files at entry and at exit, and of the lines that were
 -- printed, with some reviewers. Words are refused exactly where they name no command, unless memory ran out.

@@ -68,7 +68,8 @@ pub fn balance_program<F: Shelf, K: Sink, E: Sink>(
     err: &mut E,
 ) -> ExitCode
     // It ends with the code and the text of one status, which says what `run` says of the words behind the name.
-    ensures ends { (status : Status) × EndsWith (E.sent err.old) (E.sent err.new) (exit_status result) status
+    ensures ends { (status : Status)
+        × EndsWith (E.sent err.old) (E.sent err.new) (E.faults err.old) (E.faults err.new) (exit_status result) status
         × IfOk args (λ given. Runs (words_in given) (F.files shelf.old) (F.files shelf.new) (K.sent out.old) (K.sent out.new) status) }
 {
     let status = match args {
