@@ -248,7 +248,7 @@ module _ (s : SettingsFacts) (cs : ClassLists) where
         let at : slice_get year_files (length ps) ≡ Some name = place-of (length ps) name e in
         λ failed apart.
         let more : ApartFrom failed (take (length ps) (take n year_files) ++ name ∷ []) =
-            subst (ApartFrom failed) (ap (λ k. take k (take n year_files)) (length_push ps p) ∙ (split-at year_files (length ps) n name at below).1) apart in
+        subst (ApartFrom failed) (ap (λ k. take k (take n year_files)) (length_push ps p) ∙ (split-at year_files (length ps) n name at below).1) apart in
         let parts : ApartFrom failed (take (length ps) (take n year_files)) × ApartFrom failed (name ∷ []) = apart-parts failed (take (length ps) (take n year_files)) name more in
         next-year files ps name failed below at (before failed parts.0)
         ∙ ap (λ r. and_then r (λ q. years_from s cs (length ps + 1 + 1) (drop (length ps + 1) (take n year_files)) (ps ++ q ∷ []) failed files)) (still-year (length ps + 1) name failed files p parts.1 read)

@@ -1,9 +1,10 @@
 -- The table, read after the problem that it is of.
-use Rattle.std.proofs.Common.{◌≡◌, ◌≢◌, ◌∙◌, ℕ, List, [], ◌∷◌, Option, Some, None, Result, Ok, Err, IfSome, ap, sym, refl}
+use Rattle.std.proofs.Common.{◌≡◌, ◌≢◌, ◌∙◌, ℕ, List, [], ◌∷◌, Option, Some, None, Result, Ok, Err, Contains, IfSome, ap, sym, refl}
 use Rattle.sut_outside.specs.declared.names.FileName.{FileName}
 use Rattle.sut_outside.specs.declared.names.FileName.TheVariants.{SourceCsv, BalancedCsv}
 use Rattle.sut_outside.specs.Files.{Files}
 use Rattle.sut_records.specs.FirstFault.{and_then, fault_as}
+use Rattle.sut_settings.specs.SettingsFacts.{SettingsFacts}
 use Rattle.sut_tables.specs.ProblemFacts.{ProblemFacts}
 use Rattle.sut_tables.specs.TableFacts.{TableFacts}
 use Rattle.sut_tables.specs.Breaks.{first_break}
@@ -19,7 +20,7 @@ use Rattle.sut_input.specs.declared.tables.TableInputFault.TheVariants.{Input, B
 use Rattle.sut_input.specs.Reads.{GivesOk, Refuses}
 use Rattle.sut_input.specs.Inputs.{problem_in, read_bytes}
 use Rattle.sut_input.specs.Following.{IfReadFailed, RefusesAs}
-use Rattle.sut_input.specs.TableInputs.{admissible_only, table_fault, table_file_in, table_in, table_part, table_unless_no_memory, unless_broken}
+use Rattle.sut_input.specs.TableInputs.{admissible_only, table_fault, table_file_in, table_in, table_input_in, table_part, table_unless_no_memory, unless_broken}
 use Rattle.sut_input.proofs.FollowingSteps as steps
 
 table-cause : (P : TableInputFault → Type 0) (cause : BalancedCause) (e : BalancedFault) → P (Input input.NoMemory) → (cause ≢ table.NoMemory → P (BadTable e)) → P (table_unless_no_memory cause e)
@@ -38,7 +39,7 @@ pub table-no-read : (P : FileName → Type 0) (e : BalancedFault) → IfReadFail
 table-no-read P e = table-cause (λ f. IfReadFailed (table_part f) P) e.cause e tt (λ other. tt)
 
 -- a read of the table that fails leaves the problem as it is
-pub still : (files : Files) → problem_in SourceCsv (Some BalancedCsv) files ≡ problem_in SourceCsv None files
+still : (files : Files) → problem_in SourceCsv (Some BalancedCsv) files ≡ problem_in SourceCsv None files
 still files = refl
 
 module _ (p : ProblemFacts) where
@@ -82,3 +83,19 @@ module _ (p : ProblemFacts) where
       → IfSome held (λ files. RefusesAs table_part (table_in p) files (NotAdmissible broken))
   table-broken None t broken e h = tt
   table-broken (Some files) t broken e h = judged files t (Some broken) e h
+
+-- ---- after the problem
+
+pub problem-refused : (held : Option Files) (fault : InputFault) → IfSome held (λ files. Refuses (problem_in SourceCsv) files fault) → IfSome held (λ files. RefusesAs table_part table_input_in files (Input fault))
+unfolding table_input_in
+problem-refused held fault h = steps.problem-refused table_part Input (λ e. refl) table_in held fault h
+
+pub after-refused : (held : Option Files) (s : SettingsFacts) (p : ProblemFacts) (fault : TableInputFault) → IfReadFailed (table_part fault) (Contains (BalancedCsv ∷ [])) → IfSome held (λ files. problem_in SourceCsv None files ≡ Ok (s, p))
+    → IfSome held (λ files. RefusesAs table_part (table_in p) files fault) → IfSome held (λ files. RefusesAs table_part table_input_in files fault)
+unfolding table_input_in
+after-refused held s p fault only e h = steps.after-refused table_part Input (λ e. refl) table_in BalancedCsv still held s p fault only e h
+
+pub after-given : (held : Option Files) (s : SettingsFacts) (p : ProblemFacts) (t : TableFacts) → IfSome held (λ files. problem_in SourceCsv None files ≡ Ok (s, p)) → IfSome held (λ files. table_in p None files ≡ Ok t)
+    → IfSome held (λ files. table_input_in None files ≡ Ok ((s, p), t))
+unfolding table_input_in
+after-given held s p t e h = steps.after-given table_part Input (λ e. refl) table_in held s p t e h

@@ -32,7 +32,7 @@ fn settings_fault(fault: SettingsFault) -> InputFault
     }
 }
 
-fn class_fault(fault: ClassFault) -> InputFault
+pub(crate) fn class_fault(fault: ClassFault) -> InputFault
     ensures { result ≡ class_fault fault }
 {
     match fault {
@@ -50,7 +50,10 @@ fn source_fault(fault: SourceFault) -> InputFault
     }
 }
 
-fn read_settings_file<F: Shelf>(alloc: Global, shelf: &mut F) -> Result<Settings, InputFault>
+pub(crate) fn read_settings_file<F: Shelf>(
+    alloc: Global,
+    shelf: &mut F,
+) -> Result<Settings, InputFault>
     ensures kept { Told (F.files shelf.old) (F.files shelf.new) SameFiles }
     ensures ok { IfOk result (λ settings. IfSome (F.files shelf.old) (λ files. GivesOk settings_in files settings)) }
     ensures err { IfErr result (λ fault. IfSome (F.files shelf.old) (λ files. Refuses settings_in files fault)) }

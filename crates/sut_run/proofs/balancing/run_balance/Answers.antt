@@ -5,7 +5,7 @@ use Rattle.sut_outside.specs.Causes.{Rose}
 use Rattle.sut_outside.proofs.NoneFailed.{both_stay}
 use Rattle.sut_outside.proofs.Told.{told_as, told_then, told_with}
 use Rattle.sut_status.specs.declared.statuses.Status.{Status}
-use Rattle.sut_status.specs.declared.statuses.Status.TheVariants.{NoMemory}
+use Rattle.sut_status.specs.declared.statuses.Status.TheVariants.{NoMemory, SinkFault}
 use Rattle.sut_review.specs.Seats.{new_seat}
 use Rattle.sut_run.specs.declared.commands.Command.TheVariants.{Balance}
 use Rattle.sut_run.specs.declared.writing.Output.{Output}
@@ -155,3 +155,7 @@ pub returns-clause-printed : goal.returns-clause-printed
 returns-clause-printed g c =
     stopped-prints (AreLines (map (λ b. new_seat ((g.dyn-1.0.entry b.vtable).1.name b.value) ((g.dyn-1.0.entry b.vtable).1.rule b.value)) c.args.reviewers.items) Balance (g.F.Shelf.files c.args.shelf.now)) c.in-Ok-prepare.prepared.done c.in-Ok-prepare.prepared.made.lines.items (record { input = to_balance c.in-Ok.input.settings c.in-Ok.input.problem; delivery = record { texts = texts_in c.in-Ok-prepare.prepared.made.outputs.items; lines = c.in-Ok-prepare.prepared.made.lines.items }; given = given-told (map (λ b. new_seat ((g.dyn-1.0.entry b.vtable).1.name b.value) ((g.dyn-1.0.entry b.vtable).1.rule b.value)) c.args.reviewers.items) c.in-Ok.input.settings c.in-Ok.input.problem (g.F.Shelf.files c.args.shelf.now) c.in-Ok.ensures.ok; gives = gives-answer (map (λ b. new_seat ((g.dyn-1.0.entry b.vtable).1.name b.value) ((g.dyn-1.0.entry b.vtable).1.rule b.value)) c.args.reviewers.items) c.in-Ok.input.problem c.in-Ok-prepare.prepared.done (texts_in c.in-Ok-prepare.prepared.made.outputs.items) c.in-Ok-prepare.prepared.made.lines.items c.in-Ok-prepare.ensures; printed = refl })
     (map (λ (output : Output). output.name) c.in-Ok-prepare.prepared.made.outputs.items) c.in-Err-deliver.stopped c.in-Err-deliver.ensures.stops _ _ c.in-Err-deliver.ensures.sent
+
+pub returns-clause-sink_stays : goal.returns-clause-sink_stays
+returns-clause-sink_stays g c other =
+    c.in-Err-deliver.ensures.sink_stays (λ e. let same : c.in-Err-deliver.stopped ≡ SinkFault = cc in other same)

@@ -5,6 +5,7 @@ use Rattle.sut_outside.specs.Causes.{Rose}
 use Rattle.sut_outside.proofs.NoneFailed.{both_stay}
 use Rattle.sut_outside.proofs.Told.{told_then, told_with}
 use Rattle.sut_status.specs.declared.statuses.Status.{Status}
+use Rattle.sut_status.specs.declared.statuses.Status.TheVariants.{SinkFault}
 use Rattle.sut_review.specs.Seats.{new_seat}
 use Rattle.sut_run.specs.declared.commands.Command.TheVariants.{Edit}
 use Rattle.sut_run.specs.declared.writing.Output.{Output}
@@ -193,3 +194,7 @@ pub returns-clause-printed : goal.returns-clause-printed
 returns-clause-printed g c =
     stopped-prints (AreLines (map (λ b. new_seat ((g.dyn-1.0.entry b.vtable).1.name b.value) ((g.dyn-1.0.entry b.vtable).1.rule b.value)) c.args.reviewers.items) Edit (g.F.Shelf.files c.args.shelf.now)) c.in-Ok-prepare_given.prepared.done c.in-Ok-prepare_given.prepared.made.lines.items (record { input = to_edit c.in-Ok.given.input.settings c.in-Ok-prepare_given.ensures.prepared.moments; delivery = record { texts = texts_in c.in-Ok-prepare_given.prepared.made.outputs.items; lines = c.in-Ok-prepare_given.prepared.made.lines.items }; given = edits-given (map (λ b. new_seat ((g.dyn-1.0.entry b.vtable).1.name b.value) ((g.dyn-1.0.entry b.vtable).1.rule b.value)) c.args.reviewers.items) c.in-Ok.given.input.settings c.in-Ok.given.input.problem c.in-Ok.given.edits.items (g.F.Shelf.files c.args.shelf.now) c.in-Ok-prepare_given.ensures.prepared.moments c.in-Ok.ensures.ok c.in-Ok-prepare_given.ensures.prepared.are; gives = gives-edits (map (λ b. new_seat ((g.dyn-1.0.entry b.vtable).1.name b.value) ((g.dyn-1.0.entry b.vtable).1.rule b.value)) c.args.reviewers.items) c.in-Ok.given.input.settings c.in-Ok-prepare_given.ensures.prepared.moments c.in-Ok-prepare_given.prepared.done (texts_in c.in-Ok-prepare_given.prepared.made.outputs.items) c.in-Ok-prepare_given.prepared.made.lines.items c.in-Ok-prepare_given.ensures.prepared.is; printed = refl })
     (map (λ (output : Output). output.name) c.in-Ok-prepare_given.prepared.made.outputs.items) c.in-Err-deliver.stopped c.in-Err-deliver.ensures.stops _ _ c.in-Err-deliver.ensures.sent
+
+pub returns-clause-sink_stays : goal.returns-clause-sink_stays
+returns-clause-sink_stays g c other =
+    c.in-Err-deliver.ensures.sink_stays (λ e. let same : c.in-Err-deliver.stopped ≡ SinkFault = cc in other same)

@@ -1,0 +1,9 @@
+mod PlaceSums
+mod GdpSums
+mod PrintedLines
+mod PrintedText
+mod Prices
+mod MarginColumns
+mod GroupSums
+mod LiveLists
+mod Priced
