@@ -1,17 +1,19 @@
 -- How the program ends: with the code and the text of a status, and what that status says of the words and of the files.
 use Rattle.std.specs.Prelude.{◌≡◌, ◌⊎◌, ℕ, List, Option, None, IfSome}
 use Rattle.sut_outside.specs.Files.{Files, Told}
+use Rattle.sut_outside.specs.Causes.{Rose}
 use Rattle.sut_check.specs.declared.statuses.CheckStatus.{CheckStatus}
 use Rattle.sut_check.specs.declared.statuses.CheckStatus.TheVariants.{NoMemory, Usage}
 use Rattle.sut_check.specs.CheckCodes.{code}
 use Rattle.sut_check.specs.CheckWords.{checked_source}
 use Rattle.sut_check.specs.CheckEnds.{AnswersCheck, AreLines, Prints}
-use Rattle.sut_check_program.specs.ErrorTexts.{Says}
+use Rattle.sut_check_program.specs.ErrorTexts.{Says, SaysAll}
 
--- the number and the text of a status
-pub record EndsWith (before after : Option (List ℕ)) (exit : ℕ) (status : CheckStatus) : Type 0 where
+-- the number of a status, and its text on standard error: all of it, unless the device fails
+pub record EndsWith (before after : Option (List ℕ)) (faults_before faults_after exit : ℕ) (status : CheckStatus) : Type 0 where
   pub code : exit ≡ code status
   pub said : Told before after (Says status)
+  pub whole : ¬ Rose faults_before faults_after → Told before after (SaysAll status)
 
 -- What a status says of the words behind the program's name, of the files, and of the lines that were printed. Words are
 -- refused exactly where they name no source, unless memory ran out.

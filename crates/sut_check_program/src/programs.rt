@@ -54,7 +54,8 @@ pub fn check_program<F: Shelf, K: Sink, E: Sink>(
     ensures files { Told (F.files shelf.old) (F.files shelf.new) SameFiles }
 
     // It ends with the code and the text of one status, which says what `check_run` says of the words behind the name.
-    ensures ends { (status : CheckStatus) × EndsWith (E.sent err.old) (E.sent err.new) (exit_status result) status
+    ensures ends { (status : CheckStatus)
+        × EndsWith (E.sent err.old) (E.sent err.new) (E.faults err.old) (E.faults err.new) (exit_status result) status
         × IfOk args (λ given. Checks (words_in given) (F.files shelf.old) (K.sent out.old) (K.sent out.new) status) }
 {
     let status = match args {

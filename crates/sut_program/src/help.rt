@@ -20,7 +20,7 @@ const EXIT_CODES: &str = "Exit codes:
   13  the lines can't be printed
   14  a file is too long";
 
-fn balance_command(alloc: Global) -> Command<'static> {
+fn balance_command<'a>(alloc: Global) -> Command<'a> {
     Command::new(alloc, "balance").about(
         "Balances a year{n}\
          Reads settings.toml, classes.csv, source.csv{n}\
@@ -28,7 +28,7 @@ fn balance_command(alloc: Global) -> Command<'static> {
     )
 }
 
-fn edit_command(alloc: Global) -> Command<'static> {
+fn edit_command<'a>(alloc: Global) -> Command<'a> {
     Command::new(alloc, "edit").about(
         "Balances a year under edits of its rows{n}\
          Reads settings.toml, classes.csv, source.csv, edits.csv{n}\
@@ -36,7 +36,7 @@ fn edit_command(alloc: Global) -> Command<'static> {
     )
 }
 
-fn generate_command(alloc: Global) -> Command<'static> {
+fn generate_command<'a>(alloc: Global) -> Command<'a> {
     Command::new(alloc, "generate SEED PRODUCTS INDUSTRIES").about(
         "Makes a year of this size from a seed, and balances it in memory{n}\
          SEED is 0 to 2147483647, PRODUCTS 1 to 512, INDUSTRIES 1 to 256, and the rows at most 131072{n}\
@@ -44,7 +44,7 @@ fn generate_command(alloc: Global) -> Command<'static> {
     )
 }
 
-fn migrate_command(alloc: Global) -> Command<'static> {
+fn migrate_command<'a>(alloc: Global) -> Command<'a> {
     Command::new(alloc, "migrate").about(
         "Writes the classes of a year in format 2{n}\
          Reads classes.csv{n}\

@@ -1,6 +1,6 @@
 //! The program.
 
-ghost use Rattle.std.specs.Prelude.{◌≡◌, IfOk, MatchResult};
+ghost use Rattle.std.specs.Prelude.{◌≡◌, IfOk, OnErr};
 ghost use Rattle.std.specs.Process.{exit_status};
 ghost use Rattle.sut_status.specs.declared.statuses.Status.{Status};
 ghost use Rattle.sut_console.specs.Words.{words_in};
@@ -23,14 +23,15 @@ use sut_status::Status;
 const FAR_PERCENT: u32 = 10;
 
 // Runs what the words behind the program's name ask for. Values at a bound and far from their targets are reviewed.
+#[tactic(auto, using(crate::proofs::Ran::nothing_on_err))]
 fn run_reviewed<F: Shelf, K: Sink>(
     alloc: Global,
     args: Args,
     shelf: &mut F,
     out: &mut K,
 ) -> Result<Status, NoMemory>
-    ensures { MatchResult result (Runs (words_in args) (F.files shelf.old) (F.files shelf.new) (K.sent out.old) (K.sent out.new))
-        (λ e. Runs (words_in args) (F.files shelf.old) (F.files shelf.new) (K.sent out.old) (K.sent out.new) Status.NoMemory) }
+    ensures ran { IfOk result (Runs (words_in args) (F.files shelf.old) (F.files shelf.new) (K.sent out.old) (K.sent out.new)) }
+    ensures nothing { OnErr result (Runs (words_in args) (F.files shelf.old) (F.files shelf.new) (K.sent out.old) (K.sent out.new) Status.NoMemory) }
 {
     let words = words_behind_name(alloc, args)?;
     let mut reviewers: Vec<Box<dyn Reviewer>> = Vec::new(alloc);
@@ -67,7 +68,8 @@ pub fn balance_program<F: Shelf, K: Sink, E: Sink>(
     err: &mut E,
 ) -> ExitCode
     // It ends with the code and the text of one status, which says what `run` says of the words behind the name.
-    ensures ends { (status : Status) × EndsWith (E.sent err.old) (E.sent err.new) (exit_status result) status
+    ensures ends { (status : Status)
+        × EndsWith (E.sent err.old) (E.sent err.new) (E.faults err.old) (E.faults err.new) (exit_status result) status
         × IfOk args (λ given. Runs (words_in given) (F.files shelf.old) (F.files shelf.new) (K.sent out.old) (K.sent out.new) status) }
 {
     let status = match args {

@@ -1,4 +1,4 @@
-use Rattle.std.proofs.Common.{◌≡◌, refl}
+use Rattle.std.proofs.Common.{refl}
 use Rattle.sut_check_program.proofs.Said.{said_memory, said_text}
 use Rattle.sut_check_program.proofs.endings.end.Goals as goal
 use Rattle.sut_check_program.proofs.endings.end.Goals.{in-Err, in-Ok}
