@@ -1,5 +1,6 @@
 -- Steps of reading in a row, with the faults of any reader.
 use Rattle.std.proofs.Common.{◌≡◌, ◌≤◌, ◌∙◌, ℕ, zero, suc, List, [], ◌∷◌, ◌++◌, Option, Some, None, Result, Ok, Err, Contains, IfSome, ap, sym, subst, arith}
+use Rattle.std.specs.Prelude.{IfErr, IfOk}
 use Rattle.sut_outside.specs.declared.names.FileName.{FileName}
 use Rattle.sut_outside.specs.declared.names.FileName.TheVariants.{SourceCsv}
 use Rattle.sut_outside.specs.Files.{Files}
@@ -76,6 +77,20 @@ given-part step files a N still (Some (ReadFault n)) h e = still n h ∙ e
 given-part step files a N still (Some (BadSettings f)) h e = e
 given-part step files a N still (Some (BadClasses f)) h e = e
 given-part step files a N still (Some (BadSource f)) h e = e
+
+-- nothing is said
+pub nothing-told : (held : Option Files) → IfSome held (λ files. Unit {0})
+nothing-told None = tt
+nothing-told (Some files) = tt
+
+-- facts on what a call gave, or on its fault
+pub ok-as : {A E : Type 0} (r : Result A E) (P Q : A → Type 0) → ((a : A) → P a → Q a) → IfOk r P → IfOk r Q
+ok-as (Ok a) P Q f h = f a h
+ok-as (Err e) P Q f h = tt
+
+pub err-as : {A E : Type 0} (r : Result A E) (P Q R : E → Type 0) → ((e : E) → P e → Q e → R e) → IfErr r P → IfErr r Q → IfErr r R
+err-as (Ok a) P Q R f h k = tt
+err-as (Err e) P Q R f h k = f e h k
 
 -- a list of one name
 pub only-one : (name failed : FileName) → Contains (name ∷ []) failed → failed ≡ name

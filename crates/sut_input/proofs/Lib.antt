@@ -4,4 +4,3 @@ pub mod EditSteps
 pub mod FollowingSteps
 pub mod TableSteps
 pub mod AskSteps
-pub mod SeriesSteps

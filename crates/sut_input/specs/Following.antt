@@ -11,6 +11,7 @@ use Rattle.sut_tables.specs.ProblemFacts.{ProblemFacts}
 use Rattle.sut_input.specs.declared.faults.InputFault.{InputFault}
 use Rattle.sut_input.specs.declared.faults.InputFault.TheVariants.{ReadFault, NoMemory}
 use Rattle.sut_input.specs.Inputs.{problem_in, read_bytes}
+use Rattle.sut_input.specs.Reads as reads
 
 -- a step of reading with faults E: a function of the name of the read that fails, if one does, and of the files
 abbrev pub StepOf : Type 0 → Type 0 → Type 0
@@ -49,7 +50,15 @@ abbrev pub IfReadFailed : Option InputFault → (FileName → Type 0) → Type 0
 IfReadFailed (Some (ReadFault name)) P = P name
 IfReadFailed _ P = ⊤
 
+abbrev pub IsFailedRead : Option InputFault → Type 0
+IsFailedRead (Some fault) = reads.IsReadFault fault
+IsFailedRead None = ⊥
+
 -- a failed read is answered only where the count rose, for one of these names, which is then that of the last failed call
 abbrev pub FailsIn : {E : Type 0} → (E → Option InputFault) → List FileName → ℕ → ℕ → Option FileName → E → Type 0
 FailsIn part names before now last fault =
     IfReadFailed (part fault) (λ failed. Rose before now × (last ≡ Some failed) × Contains names failed)
+
+-- a failed read is answered
+abbrev pub IsReadFault : {E : Type 0} → (E → Option InputFault) → E → Type 0
+IsReadFault part fault = IsFailedRead (part fault)

@@ -1,10 +1,11 @@
 //! The problem of a year's files, and the measures whose ranges are asked for.
 
-ghost use Rattle.std.specs.Prelude.{◌≡◌, ◌≤◌, ◌∷◌, [], All, IfErr, IfOk, IfSome, IsTrue, None, Ok, length};
+ghost use Rattle.std.specs.Prelude.{◌≡◌, ◌≤◌, ◌∷◌, [], All, IfErr, IfOk, IfSome, IsErrAnd, IsTrue, None, Ok, length};
+ghost use Rattle.sut_outside.specs.Causes.{NoneFailed};
 ghost use Rattle.sut_outside.specs.Files.{Told, SameFiles};
 ghost use Rattle.sut_source.specs.SourceText.{HasGrade};
 ghost use Rattle.sut_tables.specs.LiveRule.{is_live};
-ghost use Rattle.sut_input.specs.Following.{FailsIn, RefusesAs};
+ghost use Rattle.sut_input.specs.Following.{FailsIn, IsReadFault, RefusesAs};
 ghost use Rattle.sut_input.specs.AskInputs.{ask_fault, ask_input_in, ask_names, ask_part, asks_in};
 
 use crate::faults::InputFault;
@@ -60,6 +61,7 @@ fn read_asks_file<F: Shelf>(
     ensures err { IfErr result (λ fault. IfSome (F.files shelf.old) (λ files. RefusesAs ask_part (asks_in p.now) files fault)) }
     ensures later { F.faults shelf.old ≤ F.faults shelf.new }
     ensures cause { IfErr result (FailsIn ask_part (FileName.AsksCsv ∷ []) (F.faults shelf.old) (F.faults shelf.new) (F.last_failed shelf.new)) }
+    ensures stays { ¬ IsErrAnd result (IsReadFault ask_part) → NoneFailed (F.faults shelf.old) (F.faults shelf.new) (F.last_failed shelf.old) (F.last_failed shelf.new) }
 {
     let bytes = match read_file(shelf, FileName::AsksCsv) {
         Ok(bytes) => bytes,
@@ -73,7 +75,7 @@ fn read_asks_file<F: Shelf>(
 
 /// Reads `settings.toml`, `classes.csv`, `source.csv` and `asks.csv`, in this order, each parsed before the next is read. No
 /// file changes. A failed read is answered only where the shelf's count of faults rose, and its name is then that of the last
-/// failed call.
+/// failed call; where anything else is answered, no read failed.
 pub fn read_ask_input<F: Shelf>(alloc: Global, shelf: &mut F) -> Result<AskInput, AskInputFault>
     ensures kept { Told (F.files shelf.old) (F.files shelf.new) SameFiles }
     ensures ok { IfOk result (λ given. IfSome (F.files shelf.old) (λ files. ask_input_in None files ≡ Ok ((given.input.settings, given.input.problem), given.asks.items))) }
@@ -83,6 +85,7 @@ pub fn read_ask_input<F: Shelf>(alloc: Global, shelf: &mut F) -> Result<AskInput
     ensures err { IfErr result (λ fault. IfSome (F.files shelf.old) (λ files. RefusesAs ask_part ask_input_in files fault)) }
     ensures later { F.faults shelf.old ≤ F.faults shelf.new }
     ensures cause { IfErr result (FailsIn ask_part ask_names (F.faults shelf.old) (F.faults shelf.new) (F.last_failed shelf.new)) }
+    ensures stays { ¬ IsErrAnd result (IsReadFault ask_part) → NoneFailed (F.faults shelf.old) (F.faults shelf.new) (F.last_failed shelf.old) (F.last_failed shelf.new) }
 {
     let input = match read_problem(alloc, shelf, FileName::SourceCsv) {
         Ok(input) => input,

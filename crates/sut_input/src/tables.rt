@@ -1,11 +1,12 @@
 //! The problem of a year's files, and a table that was balanced for it.
 
-ghost use Rattle.std.specs.Prelude.{◌≡◌, ◌≤◌, ◌∷◌, [], All, IfErr, IfOk, IfSome, None, Ok};
+ghost use Rattle.std.specs.Prelude.{◌≡◌, ◌≤◌, ◌∷◌, [], All, IfErr, IfOk, IfSome, IsErrAnd, None, Ok};
+ghost use Rattle.sut_outside.specs.Causes.{NoneFailed};
 ghost use Rattle.sut_outside.specs.Files.{Told, SameFiles};
 ghost use Rattle.sut_source.specs.SourceText.{HasGrade};
 ghost use Rattle.sut_tables.specs.Costs.{IsAdmissible};
 ghost use Rattle.sut_tables.specs.Problems.{IsTableOf};
-ghost use Rattle.sut_input.specs.Following.{FailsIn, RefusesAs};
+ghost use Rattle.sut_input.specs.Following.{FailsIn, IsReadFault, RefusesAs};
 ghost use Rattle.sut_input.specs.TableInputs.{table_fault, table_file_in, table_in, table_input_in, table_names, table_part};
 
 use crate::faults::InputFault;
@@ -61,6 +62,7 @@ fn read_table_file<F: Shelf>(
     ensures err { IfErr result (λ fault. IfSome (F.files shelf.old) (λ files. RefusesAs table_part (table_file_in p.now) files fault)) }
     ensures later { F.faults shelf.old ≤ F.faults shelf.new }
     ensures cause { IfErr result (FailsIn table_part (FileName.BalancedCsv ∷ []) (F.faults shelf.old) (F.faults shelf.new) (F.last_failed shelf.new)) }
+    ensures stays { ¬ IsErrAnd result (IsReadFault table_part) → NoneFailed (F.faults shelf.old) (F.faults shelf.new) (F.last_failed shelf.old) (F.last_failed shelf.new) }
 {
     let bytes = match read_file(shelf, FileName::BalancedCsv) {
         Ok(bytes) => bytes,
@@ -79,6 +81,7 @@ fn read_table<F: Shelf>(alloc: Global, shelf: &mut F, p: &Problem) -> Result<Tab
     ensures err { IfErr result (λ fault. IfSome (F.files shelf.old) (λ files. RefusesAs table_part (table_in p.now) files fault)) }
     ensures later { F.faults shelf.old ≤ F.faults shelf.new }
     ensures cause { IfErr result (FailsIn table_part (FileName.BalancedCsv ∷ []) (F.faults shelf.old) (F.faults shelf.new) (F.last_failed shelf.new)) }
+    ensures stays { ¬ IsErrAnd result (IsReadFault table_part) → NoneFailed (F.faults shelf.old) (F.faults shelf.new) (F.last_failed shelf.old) (F.last_failed shelf.new) }
 {
     match read_table_file(alloc, shelf, p) {
         Ok(table) => match first_open(p, &table) {
@@ -94,7 +97,7 @@ fn read_table<F: Shelf>(alloc: Global, shelf: &mut F, p: &Problem) -> Result<Tab
 
 /// Reads `settings.toml`, `classes.csv`, `source.csv` and `balanced.csv`, in this order, each parsed before the next is read, and
 /// looks for the first identity or bound that the table breaks. No file changes. A failed read is answered only where the shelf's
-/// count of faults rose, and its name is then that of the last failed call.
+/// count of faults rose, and its name is then that of the last failed call; where anything else is answered, no read failed.
 pub fn read_table_input<F: Shelf>(
     alloc: Global,
     shelf: &mut F,
@@ -106,6 +109,7 @@ pub fn read_table_input<F: Shelf>(
     ensures err { IfErr result (λ fault. IfSome (F.files shelf.old) (λ files. RefusesAs table_part table_input_in files fault)) }
     ensures later { F.faults shelf.old ≤ F.faults shelf.new }
     ensures cause { IfErr result (FailsIn table_part table_names (F.faults shelf.old) (F.faults shelf.new) (F.last_failed shelf.new)) }
+    ensures stays { ¬ IsErrAnd result (IsReadFault table_part) → NoneFailed (F.faults shelf.old) (F.faults shelf.new) (F.last_failed shelf.old) (F.last_failed shelf.new) }
 {
     let input = match read_problem(alloc, shelf, FileName::SourceCsv) {
         Ok(input) => input,

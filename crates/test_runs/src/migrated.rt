@@ -116,7 +116,9 @@ fn refused(rt: HostRuntime) -> Result<(), Fail> {
         shelf.place(FileName::BalancedCsv, b"old")?;
         let mut out = MemorySink::new(rt.alloc(), 1000, Vec::new(rt.alloc()))?;
         let status = ends(rt.alloc(), &["migrate"], &mut shelf, &mut out)?;
-        assert!(rt; status.code() == code && line_of(rt.alloc(), status)? == line.as_bytes());
+        assert!(rt;
+            status.code() == code && line_of(rt.alloc(), status)?.as_slice() == line.as_bytes()
+        );
         assert!(rt; shelf.file(FileName::Classes2Csv).is_none() && out.text().is_empty());
         assert!(rt; shelf.file(FileName::BalancedCsv) == Some(b"old".as_slice()));
     }

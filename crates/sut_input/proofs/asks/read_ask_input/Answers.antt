@@ -1,6 +1,7 @@
 use Rattle.std.proofs.Common.{◌≡◌, ◌∷◌, [], None, Ok, arith, refl}
 use Rattle.sut_outside.specs.declared.names.FileName.TheVariants.{SourceCsv, AsksCsv}
 use Rattle.sut_outside.specs.Files.{Files}
+use Rattle.sut_outside.proofs.NoneFailed.{both_stay}
 use Rattle.sut_input.specs.declared.asks.AskInputFault.TheVariants.{Input}
 use Rattle.sut_input.specs.Inputs.{problem_names}
 use Rattle.sut_input.specs.Following.{RefusesAs}
@@ -39,3 +40,11 @@ pub returns-in-Err-read_asks_file-clause-cause : goal.returns-in-Err-read_asks_f
 returns-in-Err-read_asks_file-clause-cause g c =
     fails-later ask_part (AsksCsv ∷ []) ask_names (last-name AsksCsv) (g.F.Shelf.faults c.args.shelf.now) (g.F.Shelf.faults c.read_problem.new.shelf) (g.F.Shelf.faults c.read_asks_file.new.shelf)
     (g.F.Shelf.last_failed c.read_asks_file.new.shelf) c.in-Err-read_asks_file.fault c.read_problem.ensures.later c.in-Err-read_asks_file.ensures.cause
+
+pub returns-in-Ok-read_asks_file-clause-stays : goal.returns-in-Ok-read_asks_file-clause-stays
+returns-in-Ok-read_asks_file-clause-stays g c other =
+    both_stay (c.in-Ok.ensures.stays (λ h. h)) (c.in-Ok-read_asks_file.ensures.stays other)
+
+pub returns-in-Err-read_asks_file-clause-stays : goal.returns-in-Err-read_asks_file-clause-stays
+returns-in-Err-read_asks_file-clause-stays g c other =
+    both_stay (c.in-Ok.ensures.stays (λ h. h)) (c.in-Err-read_asks_file.ensures.stays other)

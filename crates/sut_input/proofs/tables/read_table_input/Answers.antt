@@ -1,6 +1,7 @@
 use Rattle.std.proofs.Common.{◌≡◌, ◌∷◌, [], None, Ok, arith, refl}
 use Rattle.sut_outside.specs.declared.names.FileName.TheVariants.{SourceCsv, BalancedCsv}
 use Rattle.sut_outside.specs.Files.{Files}
+use Rattle.sut_outside.proofs.NoneFailed.{both_stay}
 use Rattle.sut_input.specs.declared.tables.TableInputFault.TheVariants.{Input}
 use Rattle.sut_input.specs.Inputs.{problem_names}
 use Rattle.sut_input.specs.Following.{RefusesAs}
@@ -39,3 +40,11 @@ pub returns-in-Err-read_table-clause-cause : goal.returns-in-Err-read_table-clau
 returns-in-Err-read_table-clause-cause g c =
     fails-later table_part (BalancedCsv ∷ []) table_names (last-name BalancedCsv) (g.F.Shelf.faults c.args.shelf.now) (g.F.Shelf.faults c.read_problem.new.shelf) (g.F.Shelf.faults c.read_table.new.shelf)
     (g.F.Shelf.last_failed c.read_table.new.shelf) c.in-Err-read_table.fault c.read_problem.ensures.later c.in-Err-read_table.ensures.cause
+
+pub returns-in-Ok-read_table-clause-stays : goal.returns-in-Ok-read_table-clause-stays
+returns-in-Ok-read_table-clause-stays g c other =
+    both_stay (c.in-Ok.ensures.stays (λ h. h)) (c.in-Ok-read_table.ensures.stays other)
+
+pub returns-in-Err-read_table-clause-stays : goal.returns-in-Err-read_table-clause-stays
+returns-in-Err-read_table-clause-stays g c other =
+    both_stay (c.in-Ok.ensures.stays (λ h. h)) (c.in-Err-read_table.ensures.stays other)
