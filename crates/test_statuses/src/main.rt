@@ -1,5 +1,5 @@
-//! Compares the tables of statuses in docs/COMMANDS.md, which lies in this program's folder, with the statuses of both
-//! programs: the name, the exit code and the line of an example of each. Prints how many there are, or each difference.
+//! Compares the tables of statuses in docs/COMMANDS.md, of which a copy lies in this program's folder, with the statuses of
+//! both programs: the name, the exit code and the line of an example of each. Prints how many there are, or each difference.
 #![tactic(auto)]
 
 mod balancing;
