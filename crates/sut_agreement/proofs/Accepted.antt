@@ -1,5 +1,5 @@
 -- The claim that a run's files spell, and the verdict on it.
-use Rattle.std.proofs.Common.{◌≡◌, ◌∙◌, ◌⊎◌, ℕ, ℤ, List, Option, Some, None, Result, Ok, ap, sym, refl, subst, length}
+use Rattle.std.proofs.Common.{◌≡◌, ◌≤◌, ◌∙◌, ◌⊎◌, ℕ, ℤ, List, Option, Some, None, Result, Ok, Err, ap, sym, refl, subst, length}
 use Rattle.std.specs.Prelude.{IfOk, IsOkAnd, IsSomeAnd, if◌then◌else◌, nat_le}
 use Rattle.std.proofs.lemmas.Bool.{le-leb}
 use Rattle.sut_text.specs.Text.{printed_text}
@@ -22,6 +22,8 @@ use Rattle.sut_cert.specs.declared.certificates.Certificate.{Certificate}
 use Rattle.sut_cert.specs.declared.certificates.Certificate.TheVariants as certificate
 use Rattle.sut_readback.specs.BalancedFile.{balanced_of}
 use Rattle.sut_input.specs.Inputs.{problem_in}
+use Rattle.sut_input.specs.declared.faults.InputFault.{InputFault}
+use Rattle.sut_input.specs.declared.faults.InputFault.TheVariants as input
 use Rattle.sut_verify.specs.Verdicts.{refused_or}
 use Rattle.sut_verify.specs.declared.verdicts.Verdict.{Verdict}
 use Rattle.sut_verify.specs.declared.verdicts.Verdict.TheVariants as verdict
@@ -42,20 +44,20 @@ use Rattle.sut_agreement.specs.Agreement.{Accepts, MayEnd}
 -- ---- what the files spell
 
 -- a text that is there and is short enough is read
-there : {A F S : Type 0} (missing too_long : S) (held : Option (List ℕ)) (read : List ℕ → Result A F) (bad : F → S) (value : A)
+there : {A F : Type 0} (missing too_long : InputFault) (held : Option (List ℕ)) (read : List ℕ → Result A F) (bad : F → CheckFault) (value : A)
     → IsSomeAnd held (λ bytes. (length bytes ≤ FILE_LIMIT) × (read bytes ≡ Ok value))
-    → and_then (bytes_or missing too_long held) (λ bytes. fault_as bad (read bytes)) ≡ Ok value
+    → and_then (fault_as Input (bytes_or missing too_long held)) (λ bytes. fault_as bad (read bytes)) ≡ Ok value
 there missing too_long None read bad value h = absurd h
 there missing too_long (Some bytes) read bad value h =
-    ap (λ b. and_then (if b then Ok bytes else Err too_long) (λ text. fault_as bad (read text))) (le-leb (length bytes) FILE_LIMIT h.0) ∙ ap (fault_as bad) h.1
+    ap (λ b. and_then (fault_as Input (if b then Ok bytes else Err too_long)) (λ text. fault_as bad (read text))) (le-leb (length bytes) FILE_LIMIT h.0) ∙ ap (fault_as bad) h.1
 
 certificate-there : (p : ProblemFacts) (files : Files) (c : Certificate) → Spells files CertificateCsv (certificate_of p) c → certificate_in p None files ≡ Ok c
 unfolding certificate_in
-certificate-there p files c h = there _ _ (files CertificateCsv) (certificate_of p) BadCertificate c h
+certificate-there p files c h = there (input.Missing CertificateCsv) (input.TooLong CertificateCsv) (files CertificateCsv) (certificate_of p) BadCertificate c h
 
 table-there : (p : ProblemFacts) (files : Files) (t : TableFacts) → Spells files BalancedCsv (balanced_of p) t → table_in p None files ≡ Ok t
 unfolding table_in
-table-there p files t h = there _ _ (files BalancedCsv) (balanced_of p) BadTable t h
+table-there p files t h = there (input.Missing BalancedCsv) (input.TooLong BalancedCsv) (files BalancedCsv) (balanced_of p) BadTable t h
 
 answer-there : (p : ProblemFacts) (files : Files) (c : Certificate) (a : Answer) → certificate_in p None files ≡ Ok c → answer_by p c None files ≡ Ok a → answer_in p None files ≡ Ok a
 unfolding answer_in
