@@ -10,7 +10,7 @@ use Rattle.sut_classes.specs.declared.ids.Axis.TheVariants as axis
 use Rattle.sut_classes.specs.declared.ids.Column.{Column}
 use Rattle.sut_classes.specs.declared.ids.Column.TheVariants as column
 use Rattle.sut_measures.specs.Fits.{has_column}
-use Rattle.sut_measures.specs.Keys.{column_key}
+use Rattle.sut_classes.specs.Columns.{column_key}
 use Rattle.sut_circuit.proofs.Ranks.{IsWeighed, weigh}
 
 pub record AreFew (cs : ClassLists) : Type 0 where

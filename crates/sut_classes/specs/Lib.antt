@@ -1,6 +1,7 @@
 pub mod ClassLists
 pub mod ClassView
 pub mod Places
+pub mod Columns
 pub mod Groups
 pub mod ClassFile
 pub mod Kept

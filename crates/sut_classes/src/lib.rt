@@ -6,6 +6,7 @@ mod codes;
 pub mod faults;
 pub mod ids;
 mod lists;
+pub mod orders;
 mod print;
 pub mod read;
 

@@ -1,5 +1,5 @@
--- What edits do to a problem: the rows after a list of edits, and the first need that isn't met.
-use Rattle.std.specs.Prelude.{Bool, true, false, is_some, List, [], ◌∷◌, Result, Ok, Err, if◌then◌else◌}
+-- What an edit does to a problem: the rows after it, or the need that isn't met.
+use Rattle.std.specs.Prelude.{is_some, Result, Ok, Err, if◌then◌else◌}
 use Rattle.sut_tables.specs.ProblemFacts.{ProblemFacts}
 use Rattle.sut_tables.specs.Problems.{row_at}
 use Rattle.sut_tables.specs.Changes.{with_row, row_replaced, row_removed, has_room}
@@ -18,22 +18,3 @@ edited p (edit.Add r) =
 edited p (edit.Drop m) = if is_some (row_at p m) then Ok (row_removed p m) else Err fault.NoRow
 edited p edit.Balance = Ok p
 edited p (edit.Dismiss label) = Ok p
-
--- a refused edit is no step
-abbrev pub kept_or : ProblemFacts → Result ProblemFacts EditFault → ProblemFacts
-kept_or p (Ok q) = q
-kept_or p (Err e) = p
-
--- the problem after a list of edits
-abbrev pub after : ProblemFacts → List Edit → ProblemFacts
-after p [] = p
-after p (e ∷ es) = after (kept_or p (edited p e)) es
-
--- The marked problems: those at the `balance` edits, in order, and then the last one, unless the last edit marked it.
-abbrev pub marked_from : Bool → ProblemFacts → List Edit → List ProblemFacts
-marked_from done p [] = if done then [] else (p ∷ [])
-marked_from done p (edit.Balance ∷ es) = p ∷ marked_from true p es
-marked_from done p (e ∷ es) = marked_from false (kept_or p (edited p e)) es
-
-abbrev pub marked : ProblemFacts → List Edit → List ProblemFacts
-marked p es = marked_from false p es

@@ -10,7 +10,7 @@ use Rattle.sut_classes.specs.declared.ids.Column.TheVariants as column
 use Rattle.sut_classes.specs.declared.ids.MarginId.{MarginId}
 use Rattle.sut_classes.specs.declared.ids.ProductId.{ProductId}
 use Rattle.sut_classes.specs.declared.ids.TaxId.{TaxId}
-use Rattle.sut_measures.specs.Keys.{column_key}
+use Rattle.sut_classes.specs.Columns.{column_key}
 use Rattle.sut_measures.specs.Sums.{factor, same_cell, same_column}
 use Rattle.sut_measures.specs.declared.measures.Cell.{Cell}
 use Rattle.sut_measures.specs.declared.measures.Cell.TheVariants as cell

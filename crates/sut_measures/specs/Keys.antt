@@ -1,8 +1,7 @@
 -- The key of a measure and of an account: its kind, then its codes. Keys are compared as lists, number by number:
 -- this is the order of measures and that of accounts, and two of them are the same where their keys are.
 use Rattle.std.specs.Prelude.{ℕ, List, [], ◌∷◌}
-use Rattle.sut_classes.specs.declared.ids.Column.{Column}
-use Rattle.sut_classes.specs.declared.ids.Column.TheVariants as column
+use Rattle.sut_classes.specs.Columns.{column_key}
 use Rattle.sut_measures.specs.declared.measures.Cell.{Cell}
 use Rattle.sut_measures.specs.declared.measures.Cell.TheVariants as cell
 use Rattle.sut_measures.specs.declared.measures.Total.{Total}
@@ -11,11 +10,6 @@ use Rattle.sut_measures.specs.declared.measures.Measure.{Measure}
 use Rattle.sut_measures.specs.declared.measures.Measure.TheVariants as measure
 use Rattle.sut_measures.specs.declared.accounts.Account.{Account}
 use Rattle.sut_measures.specs.declared.accounts.Account.TheVariants as account
-
--- industries come before final uses
-abbrev pub column_key : Column → List ℕ
-column_key (column.Industry j) = 0 ∷ j.0 ∷ []
-column_key (column.Final f) = 1 ∷ f.0 ∷ []
 
 abbrev pub cell_key : Cell → List ℕ
 cell_key (cell.Make i j) = 0 ∷ i.0 ∷ j.0 ∷ []

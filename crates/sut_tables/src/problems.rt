@@ -189,6 +189,7 @@ impl Problem {
     pub fn replace(&mut self, row: Row) -> bool
         ensures answer { IsTrue result ↔ IsSome (row_at self.old row.measure) }
         ensures after { self.new ≡ row_replaced self.old row }
+        ensures refused { result ≡ false → self.new ≡ self.old }
     {
         row.in_range();
         let Some(place) = self.rows.get_mut(&row.measure()) else {

@@ -163,6 +163,7 @@ impl Table {
         requires { InRange x }
         ensures answer { result ≡ holds self.old.cells c }
         ensures after { self.new ≡ put_number self.old c x }
+        ensures refused { result ≡ false → self.new ≡ self.old }
     {
         let Some(place) = place_of(&self.cells, c) else {
             return false;
