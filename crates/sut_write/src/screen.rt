@@ -43,9 +43,11 @@ fn put_cost(out: &mut Vec<u8>, p: &Problem, t: &Table) -> Result<(), NoMemory>
     Ok(())
 }
 
-// Appends the line of GDP by production, by income and by expenditure.
-fn put_gdp(out: &mut Vec<u8>, t: &Table) -> Result<(), NoMemory>
-    ensures { OnOk result (out.new.items ≡ out.old.items ++ (words_text (gdp_words t.now) ++ 10 ∷ [])) }
+/// Appends the line of GDP: `gdp P I E`, by production, by income and by expenditure, in whole currency units. After want of
+/// memory a part may stand in `out`, behind what stood there.
+pub fn put_gdp(out: &mut Vec<u8>, t: &Table) -> Result<(), NoMemory>
+    ensures done { OnOk result (out.new.items ≡ out.old.items ++ (words_text (gdp_words t.now) ++ 10 ∷ [])) }
+    ensures kept { Keeps out.old.items out.new.items }
 {
     let gdp = gdp(t);
     put_word_line(
@@ -56,8 +58,7 @@ fn put_gdp(out: &mut Vec<u8>, t: &Table) -> Result<(), NoMemory>
             Field::Whole(gdp.income),
             Field::Whole(gdp.expenditure),
         ],
-    )?;
-    Ok(())
+    )
 }
 
 fn balanced_screen(alloc: Global, p: &Problem, t: &Table) -> Result<Vec<u8>, NoMemory>

@@ -8,8 +8,8 @@ use no_memory::NoMemory;
 use sut_text::fields::{Field, put_words};
 use sut_text::{put_byte, put_bytes};
 
-// Appends a line: a word, and further words. After want of memory a part may stand in `out`, behind what stood there.
-pub(crate) fn put_word_line(
+/// Appends a line: a word, and further words. After want of memory a part may stand in `out`, behind what stood there.
+pub fn put_word_line(
     out: &mut Vec<u8>,
     word: &[u8],
     words: &[Field<'_>],
