@@ -9,11 +9,7 @@ use sut_text::fields::{Field, put_words};
 use sut_text::{put_byte, put_bytes};
 
 /// Appends a line: a word, and further words. After want of memory a part may stand in `out`, behind what stood there.
-pub fn put_word_line(
-    out: &mut Vec<u8>,
-    word: &[u8],
-    words: &[Field<'_>],
-) -> Result<(), NoMemory>
+pub fn put_word_line(out: &mut Vec<u8>, word: &[u8], words: &[Field<'_>]) -> Result<(), NoMemory>
     ensures done { OnOk result (out.new.items ≡ out.old.items ++ (words_text (word.now ∷ map field_bytes words.now) ++ 10 ∷ [])) }
     ensures kept { Keeps out.old.items out.new.items }
 {
