@@ -1,6 +1,6 @@
 -- What the separate check says of the files that a run has left. Both sides are the clauses of the two programs: `Headline` is
 -- what a run promises of its files, and a check without a failing device ends as its clauses `complete` and `printed` say.
-use Rattle.std.specs.Prelude.{◌≡◌, ◌⊎◌, ℕ, List, None, IfOk}
+use Rattle.std.specs.Prelude.{◌≡◌, ◌⊎◌, ℕ, List, Option, None, IfOk}
 use Rattle.sut_text.specs.Text.{printed_text}
 use Rattle.sut_outside.specs.declared.names.FileName.{FileName}
 use Rattle.sut_outside.specs.Files.{Files}
@@ -28,11 +28,13 @@ pub record Accepts (source : FileName) (files : Files) (accepted : CheckStatus) 
 -- what a balanced run has left is accepted: `least` and the cost of the written table, than which no admissible table costs less
 abbrev pub LeastIsAccepted : Type 0
 LeastIsAccepted =
-    (seats : List SeatFacts) (c : Command) (old new : Files) (h : Headline seats c WritesLeast old new) →
+    (seats : List SeatFacts) (c : Command) (before after : Option (List ℕ)) (old new : Files)
+    (h : Headline seats c (WritesLeast before after) old new) →
     Accepts (source_name c) new status.Least (least_words h.problem h.written.table)
 
 -- what an infeasible run has left is accepted: `no table`, and the sums of the written set
 abbrev pub CutIsAccepted : Type 0
 CutIsAccepted =
-    (seats : List SeatFacts) (c : Command) (old new : Files) (h : Headline seats c WritesCut old new) →
+    (seats : List SeatFacts) (c : Command) (before after : Option (List ℕ)) (old new : Files)
+    (h : Headline seats c (WritesCut before after) old new) →
     Accepts (source_name c) new status.NoTable (no_table_words (entering h.problem h.written.set) (leaving h.problem h.written.set))

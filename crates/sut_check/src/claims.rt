@@ -3,6 +3,7 @@
 ghost use Rattle.std.specs.Prelude.{◌≡◌, ◌≤◌, IfErr, IfOk, IfSome, IsErrAnd, None, Ok};
 ghost use Rattle.sut_outside.specs.Causes.{NoneFailed};
 ghost use Rattle.sut_outside.specs.Files.{Told, SameFiles};
+ghost use Rattle.sut_input.specs.Inputs.{problem_in};
 ghost use Rattle.sut_check.specs.CheckWords.{IsCheckedSource, checked_names};
 ghost use Rattle.sut_check.specs.Claims.{FailsIn, IsReadFault, Refuses, claim_in};
 ghost use Rattle.sut_check.specs.Findings.{IsClaimFor};
@@ -32,6 +33,7 @@ pub fn read_claim<F: Shelf>(
     requires { IsCheckedSource source }
     ensures kept { Told (F.files shelf.old) (F.files shelf.new) SameFiles }
     ensures ok { IfOk result (λ claim. IfSome (F.files shelf.old) (λ files. claim_in source None files ≡ Ok (claim.input.problem, claim.answer))) }
+    ensures settings { IfOk result (λ claim. IfSome (F.files shelf.old) (λ files. problem_in source None files ≡ Ok (claim.input.settings, claim.input.problem))) }
     ensures belongs { IfOk result (λ claim. IsClaimFor claim.input.problem claim.answer) }
     ensures err { IfErr result (λ fault. IfSome (F.files shelf.old) (λ files. Refuses (claim_in source) files fault)) }
     ensures cause { IfErr result (FailsIn (checked_names source) (F.faults shelf.old) (F.faults shelf.new) (F.last_failed shelf.new)) }

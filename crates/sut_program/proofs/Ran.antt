@@ -47,8 +47,8 @@ pub runs_of :
     words ≡ given → ((status ≡ Usage) ↔ (command_of words ≡ None)) →
     IfSome (command_of words) (λ c. IfSome old (λ files. AnswersInput seats c files status)) →
     IfSome (command_of words) (λ c. Told old new (Stands seats c status before after)) →
-    IfSome (command_of words) (λ c. status ≡ Balanced → IsChecked c × Told old new (Headline seats c WritesLeast)) →
-    IfSome (command_of words) (λ c. status ≡ Infeasible → MayBeInfeasible c × (IsChecked c → Told old new (Headline seats c WritesCut))) →
+    IfSome (command_of words) (λ c. status ≡ Balanced → IsChecked c × Told old new (Headline seats c (WritesLeast before after))) →
+    IfSome (command_of words) (λ c. status ≡ Infeasible → MayBeInfeasible c × (IsChecked c → Told old new (Headline seats c (WritesCut before after)))) →
     Runs given old new before after status
 runs_of words given seats old new before after status same used given_input stood table cut =
     let run : Runs words old new before after status = record {

@@ -25,5 +25,5 @@ pub record Runs (words : List (List ℕ)) (old new : Option Files) (before after
   pub refused : command_of words ≡ None → (status ≡ Usage) ⊎ (status ≡ NoMemory)
   pub input : IfSome (command_of words) (λ c. IfSome old (λ files. AnswersInput seats c files status))
   pub stands : IfSome (command_of words) (λ c. Told old new (Stands seats c status before after))
-  pub balanced : IfSome (command_of words) (λ c. status ≡ Balanced → IsChecked c × Told old new (Headline seats c WritesLeast))
-  pub infeasible : IfSome (command_of words) (λ c. status ≡ Infeasible → MayBeInfeasible c × (IsChecked c → Told old new (Headline seats c WritesCut)))
+  pub balanced : IfSome (command_of words) (λ c. status ≡ Balanced → IsChecked c × Told old new (Headline seats c (WritesLeast before after)))
+  pub infeasible : IfSome (command_of words) (λ c. status ≡ Infeasible → MayBeInfeasible c × (IsChecked c → Told old new (Headline seats c (WritesCut before after))))

@@ -1,8 +1,9 @@
 -- Rules as far as they are asked.
-use Rattle.std.proofs.Common.{◌≡◌, ◌^◌, ℤ, pos, neg_ℤ, Bool, true, false, refl, ap, arith, ◌&&◌}
+use Rattle.std.proofs.Common.{◌≡◌, ◌∙◌, ◌+◌, ◌^◌, ℤ, pos, neg_ℤ, Bool, true, false, List, [], ◌∷◌, refl, sym, ap, arith, ◌&&◌}
 use Rattle.std.specs.Prelude.{All, ◌≤◌, ◌≤ℤ◌, count_by, int_le, length}
 use Rattle.std.proofs.lemmas.Int.{ints}
-use Rattle.std.proofs.lemmas.List.Sums.{count_by-le-length}
+use Rattle.std.proofs.lemmas.List.Elements.{All-head, All-tail}
+use Rattle.std.proofs.lemmas.List.Sums.{count_by-le-length, sum_by-cons}
 use Rattle.sut_tables.specs.CellSums.{IsUpTo}
 use Rattle.sut_tables.specs.ProblemFacts.{ProblemFacts}
 use Rattle.sut_tables.specs.ProblemRules.{IsKept}
@@ -14,7 +15,7 @@ use Rattle.sut_tables.specs.Values.{value_of}
 use Rattle.sut_tables.specs.declared.tables.Held.{Held}
 use Rattle.sut_tables.proofs.Wide.{few-rows}
 use Rattle.sut_readback.proofs.Bounds.{value-up_to}
-use Rattle.sut_review.specs.Rules.{IsAsked, Rule, SameRule, asked, is_asked, marks_of}
+use Rattle.sut_review.specs.Rules.{IsAsked, IsHeld, Rule, SameRule, asked, is_asked, marks_of, tally_of}
 
 asked-wider : (x : ℤ) → IsUpTo (2 ^ 58) x → IsAsked x
 asked-wider x up = by up.low up.high
@@ -77,3 +78,14 @@ marks-few rule p t kept =
     let most : marks_of rule p t ≤ length p.rows = count_by-le-length (λ (r : RowFacts). rule r (value_of t r.measure)) p.rows in
     let few = few-rows p kept.limits in
     omega (arith, most, few)
+
+-- over tables of their problems a rule's tally is that of the rule as far as it is asked
+pub tally-asked : (rule : Rule) (tables : List (ProblemFacts × TableFacts)) → All (λ (shown : ProblemFacts × TableFacts). IsHeld shown.0 shown.1) tables → tally_of (asked rule) tables ≡ tally_of rule tables
+tally-asked rule [] all = refl
+tally-asked rule (shown ∷ tables) all =
+    let held = All-head (λ (shown : ProblemFacts × TableFacts). IsHeld shown.0 shown.1) shown tables all in
+    let rest = tally-asked rule tables (All-tail (λ (shown : ProblemFacts × TableFacts). IsHeld shown.0 shown.1) shown tables all) in
+    sum_by-cons (λ (s : ProblemFacts × TableFacts). marks_of (asked rule) s.0 s.1) shown tables
+    ∙ ap (λ n. n + tally_of (asked rule) tables) (marks-asked rule shown.0 shown.1 (values-asked shown.0 shown.1 held.problem held.of held.numbers))
+    ∙ ap (λ n. marks_of rule shown.0 shown.1 + n) rest
+    ∙ sym (sum_by-cons (λ (s : ProblemFacts × TableFacts). marks_of rule s.0 s.1) shown tables)

@@ -1,12 +1,12 @@
 //! Laws of tallies.
 
-ghost use Rattle.std.specs.Prelude.{◌≡◌, ◌≤◌, ℕ, List, Some, true, length, map, position};
+ghost use Rattle.std.specs.Prelude.{◌≡◌, ◌≤◌, ℕ, All, List, None, Some, true, length, map, position};
 ghost use Rattle.sut_tables.specs.Problems.{IsTableOf};
 ghost use Rattle.sut_tables.specs.ProblemFacts.{ProblemFacts};
 ghost use Rattle.sut_tables.specs.TableFacts.{TableFacts};
 ghost use Rattle.sut_tables.specs.RowFacts.{RowFacts};
 ghost use Rattle.sut_tables.specs.Values.{value_of};
-ghost use Rattle.sut_review.specs.Rules.{IsAsked, Rule, asked, marks_of, tally_of};
+ghost use Rattle.sut_review.specs.Rules.{IsAsked, IsHeld, Rule, asked, marks_of, tally_of};
 ghost use Rattle.sut_review.specs.Seats.{AreFew, SeatFacts, dismissed, dismissed_at, ended, new_seat, seat_after, show_all, stands_at, stands_with};
 
 use sut_tables::{Problem, Table};
@@ -24,8 +24,8 @@ pub fn values_asked(p: &Problem, t: &Table)
 }
 
 /// After the tables that may be shown to a panel, a reviewer that was handed in has seen each of them, and its tally is that
-/// of its rule over them. Tables that are shown after its dismissal change nothing. Each reviewer counts alone. It does
-/// nothing.
+/// of its rule over them: over tables of their problems, the rows that the rule marks with the values of their measures. One
+/// that is dismissed then keeps both, whatever is shown later. Each reviewer counts alone. It does nothing.
 pub fn tallies()
     ensures each { (tables : List (ProblemFacts × TableFacts)) (seats : List SeatFacts) → show_all tables seats ≡ map (seat_after tables) seats }
     ensures stood { (tables : List (ProblemFacts × TableFacts)) (label : List ℕ) (rule : Rule) → AreFew tables → seat_after tables (new_seat label rule) ≡ record {
@@ -34,6 +34,13 @@ pub fn tallies()
       tally = tally_of (asked rule) tables;
       standing = Some (asked rule);
     } }
+    ensures dismissed { (before after : List (ProblemFacts × TableFacts)) (label : List ℕ) (rule : Rule) → AreFew before → seat_after after (ended (seat_after before (new_seat label rule))) ≡ record {
+      label = label;
+      seen = length before;
+      tally = tally_of (asked rule) before;
+      standing = None;
+    } }
+    ensures counts { (tables : List (ProblemFacts × TableFacts)) (rule : Rule) → All (λ (shown : ProblemFacts × TableFacts). IsHeld shown.0 shown.1) tables → tally_of (asked rule) tables ≡ tally_of rule tables }
     ensures left { (tables : List (ProblemFacts × TableFacts)) (seat : SeatFacts) → seat_after tables (ended seat) ≡ ended seat }
 {}
 

@@ -28,6 +28,7 @@ use Rattle.sut_cert.specs.CertificateFile.{certificate_of}
 use Rattle.sut_cert.specs.CertificateText.{certificate_text}
 use Rattle.sut_readback.specs.BalancedFile.{balanced_of}
 use Rattle.sut_readback.specs.BalancedText.{balanced_text}
+use Rattle.sut_write.specs.Screen.{screen_text}
 use Rattle.sut_input.specs.Inputs.{problem_in}
 use Rattle.sut_input.specs.EditInputs.{edit_input_in, edited_in, edits_in}
 use Rattle.sut_input.specs.declared.faults.InputFault.{InputFault}
@@ -37,7 +38,7 @@ use Rattle.sut_input.specs.declared.edits.EditInputFault.TheVariants as edits
 use Rattle.sut_review.specs.Seats.{SeatFacts}
 use Rattle.sut_editing.specs.Moments.{Moments, moments_of, standing_labels}
 use Rattle.sut_editing.specs.Events.{IsAnswer}
-use Rattle.sut_editing.specs.Shown.{seats_after, trail_text}
+use Rattle.sut_editing.specs.Shown.{rebalances_text, seats_after, trail_text}
 use Rattle.sut_editing.proofs.Finishing.{same-classes}
 use Rattle.sut_status.specs.declared.statuses.Status.{Status}
 use Rattle.sut_status.specs.declared.statuses.Status.TheVariants.{Balanced, Infeasible}
@@ -46,8 +47,8 @@ use Rattle.sut_run.specs.Inputs.{input_of, to_edit}
 use Rattle.sut_run.specs.Deliveries.{ReadsBack, SpellsSource, answer_files, review_files, status_of}
 use Rattle.sut_run.specs.Prepared.{IsPreparedEdit}
 use Rattle.sut_run.specs.Headlines.{Headline, WritesCut, WritesLeast}
-use Rattle.sut_run.specs.Steps.{Delivered}
-use Rattle.sut_run.proofs.Headlined.{problem-by, problem_by, spelled, stands-at}
+use Rattle.sut_run.specs.Steps.{Delivered, Sends}
+use Rattle.sut_run.proofs.Headlined.{problem-by, problem_by, sends-last, spelled, stands-at, tells-answer}
 
 -- ---- the rows after all edits, read back in the place of the source
 
@@ -138,9 +139,9 @@ problem-read files s p lines h = problem-first (problem_in SourceCsv None files)
 
 module _ (seats : List SeatFacts) (s : SettingsFacts) (p : ProblemFacts) (lines : List EditLine) (m : Moments) (are : moments_of (standing_labels seats) p lines ≡ Ok m) where
   edit-balanced : (a : Answer) → IsAnswer m.last a → ReadsBack m.last a → SpellsSource s m.last → status_of a ≡ Balanced → (trail : List ℕ) (old now new : Files) → SameFiles old now → problem_in SourceCsv None old ≡ Ok (s, p) → input_of seats Edit None old ≡ Ok (to_edit s m)
-      → ((name : FileName) → same_name name ReviewCsv ≡ false → new name ≡ after_writes ((EditedCsv, source_text s m.last) ∷ (TrailCsv, trail) ∷ answer_files m.last a) now name) → Headline seats Edit WritesLeast old new
-  edit-balanced (answer.Infeasible set) is_right reads spells ends trail old now new same read given at = absurd cc
-  edit-balanced (answer.Balanced t ps) is_right reads spells ends trail old now new same read given at = record {
+      → ((name : FileName) → same_name name ReviewCsv ≡ false → new name ≡ after_writes ((EditedCsv, source_text s m.last) ∷ (TrailCsv, trail) ∷ answer_files m.last a) now name) → (before after : Option (List ℕ)) (front : List ℕ) → Told before after (Sends (front ++ screen_text m.last a)) → Headline seats Edit (WritesLeast before after) old new
+  edit-balanced (answer.Infeasible set) is_right reads spells ends trail old now new same read given at before after front sent = absurd cc
+  edit-balanced (answer.Balanced t ps) is_right reads spells ends trail old now new same read given at before after front sent = record {
     problem = m.last;
     settings = s;
     given = (m, given, refl);
@@ -148,6 +149,7 @@ module _ (seats : List SeatFacts) (s : SettingsFacts) (p : ProblemFacts) (lines 
     written = record {
       table = t;
       shown_by = ps;
+      told = tells-answer m.last (answer.Balanced t ps) ((EditedCsv, source_text s m.last) ∷ (TrailCsv, trail) ∷ []) now new at before after (sends-last front (screen_text m.last (answer.Balanced t ps)) before after sent);
       table_spelled = spelled (new BalancedCsv) (balanced_text m.last t) (balanced_of m.last) t (at BalancedCsv refl) reads.0.short reads.0.read;
       certificate_spelled = spelled (new CertificateCsv) (certificate_text m.last.classes (certificate.Potentials ps)) (certificate_of m.last) (certificate.Potentials ps) (at CertificateCsv refl) reads.1.short reads.1.read;
       least = is_right.right.least;
@@ -160,15 +162,16 @@ module _ (seats : List SeatFacts) (s : SettingsFacts) (p : ProblemFacts) (lines 
   }
 
   edit-infeasible : (a : Answer) → IsAnswer m.last a → ReadsBack m.last a → SpellsSource s m.last → status_of a ≡ Infeasible → (trail : List ℕ) (old now new : Files) → SameFiles old now → problem_in SourceCsv None old ≡ Ok (s, p) → input_of seats Edit None old ≡ Ok (to_edit s m)
-      → ((name : FileName) → same_name name ReviewCsv ≡ false → new name ≡ after_writes ((EditedCsv, source_text s m.last) ∷ (TrailCsv, trail) ∷ answer_files m.last a) now name) → Headline seats Edit WritesCut old new
-  edit-infeasible (answer.Balanced t ps) is_right reads spells ends trail old now new same read given at = absurd cc
-  edit-infeasible (answer.Infeasible set) is_right reads spells ends trail old now new same read given at = record {
+      → ((name : FileName) → same_name name ReviewCsv ≡ false → new name ≡ after_writes ((EditedCsv, source_text s m.last) ∷ (TrailCsv, trail) ∷ answer_files m.last a) now name) → (before after : Option (List ℕ)) (front : List ℕ) → Told before after (Sends (front ++ screen_text m.last a)) → Headline seats Edit (WritesCut before after) old new
+  edit-infeasible (answer.Balanced t ps) is_right reads spells ends trail old now new same read given at before after front sent = absurd cc
+  edit-infeasible (answer.Infeasible set) is_right reads spells ends trail old now new same read given at before after front sent = record {
     problem = m.last;
     settings = s;
     given = (m, given, refl);
     spelled = rows-spelled old new s p m.last read (at SettingsToml refl ∙ same SettingsToml) (at ClassesCsv refl ∙ same ClassesCsv) (at EditedCsv refl) (same-classes (standing_labels seats) p lines m are) spells;
     written = record {
       set = set;
+      told = tells-answer m.last (answer.Infeasible set) ((EditedCsv, source_text s m.last) ∷ (TrailCsv, trail) ∷ []) now new at before after (sends-last front (screen_text m.last (answer.Infeasible set)) before after sent);
       spelled = spelled (new CertificateCsv) (certificate_text m.last.classes (certificate.Cut set)) (certificate_of m.last) (certificate.Cut set) (at CertificateCsv refl) reads.short reads.read;
       contradicts = is_right.right.contradicts;
       impossible = is_right.infeasible.0 refl;
@@ -182,16 +185,16 @@ module _ (seats : List SeatFacts) (s : SettingsFacts) (p : ProblemFacts) (lines 
     both None o g = tt
     both (Some files) o g = (problem-read files s p lines o, g)
 
-    pub edit-balanced-told : done ≡ Balanced → Told old new (Headline seats Edit WritesLeast)
+    pub edit-balanced-told : done ≡ Balanced → Told old new (Headline seats Edit (WritesLeast before after))
     edit-balanced-told e =
-        told_then (λ (y z : Files). SameFiles y z × ((problem_in SourceCsv None y ≡ Ok (s, p)) × (input_of seats Edit None y ≡ Ok (to_edit s m)))) (λ y z. Delivered texts printed {T = Unit {0}} (Ok tt) y z before after) (Headline seats Edit WritesLeast)
+        told_then (λ (y z : Files). SameFiles y z × ((problem_in SourceCsv None y ≡ Ok (s, p)) × (input_of seats Edit None y ≡ Ok (to_edit s m)))) (λ y z. Delivered texts printed {T = Unit {0}} (Ok tt) y z before after) (Headline seats Edit (WritesLeast before after))
         (λ w y z read d. edit-balanced x.answer x.right x.reads_back x.spells (sym x.ends ∙ e) (trail_text x.events) w y z read.0 read.1.0 read.1.1
-        (stands-at (seats_after x.events seats) ((EditedCsv, source_text s m.last) ∷ (TrailCsv, trail_text x.events) ∷ answer_files m.last x.answer) y z (subst (λ t. WrittenAll t y z) x.written d.0)))
+        (stands-at (seats_after x.events seats) ((EditedCsv, source_text s m.last) ∷ (TrailCsv, trail_text x.events) ∷ answer_files m.last x.answer) y z (subst (λ t. WrittenAll t y z) x.written d.0)) before after (rebalances_text x.events) (subst (λ t. Told before after (Sends t)) x.printed d.1))
         old now new (told_with SameFiles (λ (files : Files). (problem_in SourceCsv None files ≡ Ok (s, p)) × (input_of seats Edit None files ≡ Ok (to_edit s m))) old now kept (both old ok given)) stands
 
-    pub edit-infeasible-told : done ≡ Infeasible → Told old new (Headline seats Edit WritesCut)
+    pub edit-infeasible-told : done ≡ Infeasible → Told old new (Headline seats Edit (WritesCut before after))
     edit-infeasible-told e =
-        told_then (λ (y z : Files). SameFiles y z × ((problem_in SourceCsv None y ≡ Ok (s, p)) × (input_of seats Edit None y ≡ Ok (to_edit s m)))) (λ y z. Delivered texts printed {T = Unit {0}} (Ok tt) y z before after) (Headline seats Edit WritesCut)
+        told_then (λ (y z : Files). SameFiles y z × ((problem_in SourceCsv None y ≡ Ok (s, p)) × (input_of seats Edit None y ≡ Ok (to_edit s m)))) (λ y z. Delivered texts printed {T = Unit {0}} (Ok tt) y z before after) (Headline seats Edit (WritesCut before after))
         (λ w y z read d. edit-infeasible x.answer x.right x.reads_back x.spells (sym x.ends ∙ e) (trail_text x.events) w y z read.0 read.1.0 read.1.1
-        (stands-at (seats_after x.events seats) ((EditedCsv, source_text s m.last) ∷ (TrailCsv, trail_text x.events) ∷ answer_files m.last x.answer) y z (subst (λ t. WrittenAll t y z) x.written d.0)))
+        (stands-at (seats_after x.events seats) ((EditedCsv, source_text s m.last) ∷ (TrailCsv, trail_text x.events) ∷ answer_files m.last x.answer) y z (subst (λ t. WrittenAll t y z) x.written d.0)) before after (rebalances_text x.events) (subst (λ t. Told before after (Sends t)) x.printed d.1))
         old now new (told_with SameFiles (λ (files : Files). (problem_in SourceCsv None files ≡ Ok (s, p)) × (input_of seats Edit None files ≡ Ok (to_edit s m))) old now kept (both old ok given)) stands

@@ -1,9 +1,9 @@
 -- What the written files say by themselves, read back by the readers' own definitions.
-use Rattle.std.specs.Prelude.{◌≡◌, ◌≤◌, ℕ, ℤ, List, length, None, Ok, Result, IsSomeAnd, ⊤}
+use Rattle.std.specs.Prelude.{◌≡◌, ◌≤◌, ◌++◌, ℕ, ℤ, All, List, length, Option, None, Some, Ok, Result, IsSomeAnd, ⊤}
 use Rattle.sut_outside.specs.declared.names.FileName.{FileName}
 use Rattle.sut_outside.specs.declared.names.FileName.TheVariants.{SourceCsv, EditedCsv, BalancedCsv, CertificateCsv, MadeSourceCsv, Classes2Csv}
 use Rattle.sut_outside.specs.declared.shelf.TheConstants.{FILE_LIMIT}
-use Rattle.sut_outside.specs.Files.{Files}
+use Rattle.sut_outside.specs.Files.{Files, Told}
 use Rattle.sut_settings.specs.SettingsFacts.{SettingsFacts}
 use Rattle.sut_classes.specs.ClassLists.{ClassLists}
 use Rattle.sut_classes.specs.ClassFile.{classes_of}
@@ -15,13 +15,17 @@ use Rattle.sut_tables.specs.Gdp.{production, income, expenditure}
 use Rattle.sut_cert.specs.Certificates.{ShowsLeast, Contradicts}
 use Rattle.sut_cert.specs.CertificateFile.{certificate_of}
 use Rattle.sut_cert.specs.declared.certificates.Certificate.TheVariants as certificate
+use Rattle.sut_cert.specs.declared.answers.Answer.{Answer}
+use Rattle.sut_cert.specs.declared.answers.Answer.TheVariants as answer
 use Rattle.sut_readback.specs.BalancedFile.{balanced_of}
 use Rattle.sut_input.specs.Inputs.{classes_in, problem_in}
+use Rattle.sut_write.specs.Screen.{screen_text}
 use Rattle.sut_run.specs.declared.commands.Command.{Command}
 use Rattle.sut_run.specs.declared.commands.Command.TheVariants.{Balance, Edit, Migrate, Generate}
 use Rattle.sut_review.specs.Seats.{SeatFacts}
 use Rattle.sut_editing.specs.Moments.{Moments}
 use Rattle.sut_run.specs.Inputs.{input_of, to_balance, to_edit}
+use Rattle.sut_run.specs.Deliveries.{answer_files}
 
 -- the problem whose answer is written: that of the source, or that of the rows after all edits
 abbrev pub IsLastProblem : List SeatFacts → Command → Files → SettingsFacts → ProblemFacts → Type 0
@@ -60,19 +64,30 @@ pub record HasOneGdp (t : TableFacts) : Type 0 where
   pub by_income : income t ≡ production t
   pub by_expenditure : expenditure t ≡ production t
 
--- the written table is least and has one GDP, and the written potentials show it
-pub record WritesLeast (p : ProblemFacts) (files : Files) : Type 0 where
+-- these lines went out last
+abbrev pub SendsLast : List ℕ → List ℕ → List ℕ → Type 0
+SendsLast lines old new = (front : List ℕ) × (new ≡ old ++ front ++ lines)
+
+-- tables, accounts, certificate, report and the last printed lines are those of one answer
+pub record TellsAnswer (before after : Option (List ℕ)) (p : ProblemFacts) (a : Answer) (files : Files) : Type 0 where
+  pub texts : All (λ (text : FileName × List ℕ). files text.0 ≡ Some text.1) (answer_files p a)
+  pub lines : Told before after (SendsLast (screen_text p a))
+
+-- the written table is least and has one GDP, the written potentials show it, and all that is told is of the two
+pub record WritesLeast (before after : Option (List ℕ)) (p : ProblemFacts) (files : Files) : Type 0 where
   pub table : TableFacts
   pub shown_by : List (Account × ℤ)
+  pub told : TellsAnswer before after p (answer.Balanced table shown_by) files
   pub table_spelled : Spells files BalancedCsv (balanced_of p) table
   pub certificate_spelled : Spells files CertificateCsv (certificate_of p) (certificate.Potentials shown_by)
   pub least : IsLeast p table
   pub one_gdp : HasOneGdp table
   pub shown : ShowsLeast p table shown_by
 
--- the written set contradicts, and no table exists
-pub record WritesCut (p : ProblemFacts) (files : Files) : Type 0 where
+-- the written set contradicts, no table exists, and all that is told is of the set
+pub record WritesCut (before after : Option (List ℕ)) (p : ProblemFacts) (files : Files) : Type 0 where
   pub set : List Account
+  pub told : TellsAnswer before after p (answer.Infeasible set) files
   pub spelled : Spells files CertificateCsv (certificate_of p) (certificate.Cut set)
   pub contradicts : Contradicts p set
   pub impossible : IsImpossible p

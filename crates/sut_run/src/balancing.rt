@@ -102,8 +102,8 @@ pub(crate) fn run_balance<F: Shelf, K: Sink>(
     ensures shelf_stays { ¬ IsShelfFault result → NoneFailed (F.faults shelf.old) (F.faults shelf.new) (F.last_failed shelf.old) (F.last_failed shelf.new) }
     ensures sink_stays { result ≢ Status.SinkFault → K.faults out.new ≡ K.faults out.old }
     ensures printed { Told (K.sent out.old) (K.sent out.new) (Prints (AreLines (map (λ b. new_seat (name b) (rule b)) reviewers.items) Command.Balance (F.files shelf.old)) result) }
-    ensures balanced { result ≡ Status.Balanced → Told (F.files shelf.old) (F.files shelf.new) (Headline (map (λ b. new_seat (name b) (rule b)) reviewers.items) Command.Balance WritesLeast) }
-    ensures infeasible { result ≡ Status.Infeasible → Told (F.files shelf.old) (F.files shelf.new) (Headline (map (λ b. new_seat (name b) (rule b)) reviewers.items) Command.Balance WritesCut) }
+    ensures balanced { result ≡ Status.Balanced → Told (F.files shelf.old) (F.files shelf.new) (Headline (map (λ b. new_seat (name b) (rule b)) reviewers.items) Command.Balance (WritesLeast (K.sent out.old) (K.sent out.new))) }
+    ensures infeasible { result ≡ Status.Infeasible → Told (F.files shelf.old) (F.files shelf.new) (Headline (map (λ b. new_seat (name b) (rule b)) reviewers.items) Command.Balance (WritesCut (K.sent out.old) (K.sent out.new))) }
     ensures migrated { (result ≡ Status.Migrated) → ⊥ }
     ensures used { (result ≡ Status.Usage) → ⊥ }
 {

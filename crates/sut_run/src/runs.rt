@@ -84,12 +84,12 @@ pub fn run<F: Shelf, K: Sink>(
         → (result ≡ Status.NoMemory) ⊎ IsDone result)) }
 
     // Balanced: the written table is least for the source, or for the rows after all edits, has one GDP, and the written
-    // certificate shows it.
-    ensures balanced { IfSome (command_of (map string_bytes words.now)) (λ c. result ≡ Status.Balanced → IsChecked c × Told (F.files shelf.old) (F.files shelf.new) (Headline (map (λ b. new_seat (name b) (rule b)) reviewers.items) c WritesLeast)) }
+    // certificate shows it; tables, accounts, report and the last printed lines are of the same table.
+    ensures balanced { IfSome (command_of (map string_bytes words.now)) (λ c. result ≡ Status.Balanced → IsChecked c × Told (F.files shelf.old) (F.files shelf.new) (Headline (map (λ b. new_seat (name b) (rule b)) reviewers.items) c (WritesLeast (K.sent out.old) (K.sent out.new)))) }
 
     // Infeasible: only of a command whose problem may be, and where its answer is written for the separate check, the written
-    // set contradicts, and no table exists.
-    ensures infeasible { IfSome (command_of (map string_bytes words.now)) (λ c. result ≡ Status.Infeasible → MayBeInfeasible c × (IsChecked c → Told (F.files shelf.old) (F.files shelf.new) (Headline (map (λ b. new_seat (name b) (rule b)) reviewers.items) c WritesCut))) }
+    // set contradicts, no table exists, and report and the last printed lines are of the same set.
+    ensures infeasible { IfSome (command_of (map string_bytes words.now)) (λ c. result ≡ Status.Infeasible → MayBeInfeasible c × (IsChecked c → Told (F.files shelf.old) (F.files shelf.new) (Headline (map (λ b. new_seat (name b) (rule b)) reviewers.items) c (WritesCut (K.sent out.old) (K.sent out.new))))) }
 
     // Migrated: the written classes read back as those at entry, in format 2.
     ensures migrated { result ≡ Status.Migrated → Told (F.files shelf.old) (F.files shelf.new) WritesClasses }

@@ -20,6 +20,7 @@ use Rattle.sut_tables.proofs.FirstBreak.{admissible-no-breaks, first_break-admis
 use Rattle.sut_cert.specs.Certificates.{potential_at, rise, slope_up, slope_down, RowIsShown, MeasureIsShown, ShowsLeast, has_account, enters, leaves, entering, leaving, Contradicts}
 use Rattle.sut_verify.specs.declared.verdicts.Reason.{Reason}
 use Rattle.sut_verify.specs.declared.verdicts.Reason.TheVariants as reason
+use Rattle.sut_verify.specs.declared.verdicts.Verdict.{Verdict}
 use Rattle.sut_verify.specs.declared.verdicts.Verdict.TheVariants as verdict
 use Rattle.sut_verify.specs.Verdicts.{account_reasons, crossing_at, cut_reasons, measure_reasons, no_gap, reasons, reasons_at, refused_or, row_reasons, verdict_on, verdict_on_cut, where_true}
 
@@ -175,3 +176,17 @@ verdict_on_cut-contradicts p set = (
   (λ e. no-cut_reasons p set (no_table-empty (entering p set) (leaving p set) (cut_reasons p set) e)),
   (λ c. ap (λ rs. refused_or (verdict.NoTable (entering p set) (leaving p set)) (first_of rs)) (contradicts-no-reasons p set c)),
 )
+
+-- ---- the sums of an answer
+
+sums-of : (entering leaving enter leave : ℤ) (r : Option Reason) → refused_or (verdict.NoTable entering leaving) r ≡ verdict.NoTable enter leave → (enter ≡ entering) × (leave ≡ leaving)
+sums-of entering leaving enter leave None h =
+    let same : ◌≡◌ {A = Verdict} (verdict.NoTable entering leaving) (verdict.NoTable enter leave) = h in
+    let first : enter ≡ entering = cc in
+    let second : leave ≡ leaving = cc in
+    (first, second)
+sums-of entering leaving enter leave (Some r) h = absurd cc
+
+-- an answer that no table exists holds the two sums of the set
+pub same-sums : (p : ProblemFacts) (set : List Account) (enter leave : ℤ) → verdict_on_cut p set ≡ verdict.NoTable enter leave → (enter ≡ entering p set) × (leave ≡ leaving p set)
+same-sums p set enter leave h = sums-of (entering p set) (leaving p set) enter leave (first_of (cut_reasons p set)) h

@@ -1,6 +1,6 @@
 //! The verdict on a set of accounts.
 
-ghost use Rattle.std.specs.Prelude.{◌≡◌, ◌↔◌};
+ghost use Rattle.std.specs.Prelude.{◌≡◌, ◌↔◌, ℤ};
 ghost use Rattle.std.specs.List.{flat_map};
 ghost use Rattle.sut_tables.specs.Breaks.{first_of};
 ghost use Rattle.sut_tables.specs.Costs.{IsImpossible};
@@ -80,10 +80,11 @@ fn judge(p: &Problem, s: &AccountSet) -> Verdict
 
 /// The first reason against a set of accounts: a live measure without a row that crosses its edge,
 /// or two sums without a gap. `NoTable` comes, with the two sums, exactly where the set contradicts
-/// the bounds, and then no table is admissible (after Hoffman's condition).
+/// the bounds, and then no table is admissible (after Hoffman's condition): any answer `NoTable` holds these sums.
 pub fn verify_cut(p: &Problem, s: &AccountSet) -> Verdict
     ensures first { result ≡ verdict_on_cut p.now s.now }
     ensures shown { (result ≡ Verdict.NoTable (certificate.entering p.now s.now) (certificate.leaving p.now s.now)) ↔ Contradicts p.now s.now }
+    ensures sums { (enter leave : ℤ) → result ≡ Verdict.NoTable enter leave → (enter ≡ certificate.entering p.now s.now) × (leave ≡ certificate.leaving p.now s.now) × IsImpossible p.now }
     ensures impossible { result ≡ Verdict.NoTable (certificate.entering p.now s.now) (certificate.leaving p.now s.now) → IsImpossible p.now }
 {
     p.kept();

@@ -51,11 +51,11 @@ returns-in-Some-Balance-clause-complete g c =
 
 pub returns-in-Some-Balance-clause-balanced : goal.returns-in-Some-Balance-clause-balanced
 returns-in-Some-Balance-clause-balanced g c =
-    for-command (command_of (map string_bytes c.args.words.now)) Balance (sym c.command_named.ensures ∙ c.in-Some-Balance.is ∙ ap Some c.in-Some-Balance.field-0-is) (λ (k : Command). c.run_balance.result ≡ Balanced → IsChecked k × Told (g.F.Shelf.files c.args.shelf.now) (g.F.Shelf.files c.run_balance.new.shelf) (Headline (map (λ b. new_seat ((g.dyn-1.0.entry b.vtable).1.name b.value) ((g.dyn-1.0.entry b.vtable).1.rule b.value)) c.args.reviewers.items) k WritesLeast)) (λ e. (tt, c.run_balance.ensures.balanced e))
+    for-command (command_of (map string_bytes c.args.words.now)) Balance (sym c.command_named.ensures ∙ c.in-Some-Balance.is ∙ ap Some c.in-Some-Balance.field-0-is) (λ (k : Command). c.run_balance.result ≡ Balanced → IsChecked k × Told (g.F.Shelf.files c.args.shelf.now) (g.F.Shelf.files c.run_balance.new.shelf) (Headline (map (λ b. new_seat ((g.dyn-1.0.entry b.vtable).1.name b.value) ((g.dyn-1.0.entry b.vtable).1.rule b.value)) c.args.reviewers.items) k (WritesLeast (g.K.Sink.sent c.args.out.now) (g.K.Sink.sent c.run_balance.new.out)))) (λ e. (tt, c.run_balance.ensures.balanced e))
 
 pub returns-in-Some-Balance-clause-infeasible : goal.returns-in-Some-Balance-clause-infeasible
 returns-in-Some-Balance-clause-infeasible g c =
-    for-command (command_of (map string_bytes c.args.words.now)) Balance (sym c.command_named.ensures ∙ c.in-Some-Balance.is ∙ ap Some c.in-Some-Balance.field-0-is) (λ (k : Command). c.run_balance.result ≡ Infeasible → MayBeInfeasible k × (IsChecked k → Told (g.F.Shelf.files c.args.shelf.now) (g.F.Shelf.files c.run_balance.new.shelf) (Headline (map (λ b. new_seat ((g.dyn-1.0.entry b.vtable).1.name b.value) ((g.dyn-1.0.entry b.vtable).1.rule b.value)) c.args.reviewers.items) k WritesCut))) (λ e. (tt, λ _. c.run_balance.ensures.infeasible e))
+    for-command (command_of (map string_bytes c.args.words.now)) Balance (sym c.command_named.ensures ∙ c.in-Some-Balance.is ∙ ap Some c.in-Some-Balance.field-0-is) (λ (k : Command). c.run_balance.result ≡ Infeasible → MayBeInfeasible k × (IsChecked k → Told (g.F.Shelf.files c.args.shelf.now) (g.F.Shelf.files c.run_balance.new.shelf) (Headline (map (λ b. new_seat ((g.dyn-1.0.entry b.vtable).1.name b.value) ((g.dyn-1.0.entry b.vtable).1.rule b.value)) c.args.reviewers.items) k (WritesCut (g.K.Sink.sent c.args.out.now) (g.K.Sink.sent c.run_balance.new.out))))) (λ e. (tt, λ _. c.run_balance.ensures.infeasible e))
 
 pub returns-in-Some-Balance-clause-migrated : goal.returns-in-Some-Balance-clause-migrated
 returns-in-Some-Balance-clause-migrated g c e = absurd (c.run_balance.ensures.migrated e)
@@ -91,11 +91,11 @@ returns-in-Some-Edit-clause-complete g c =
 
 pub returns-in-Some-Edit-clause-balanced : goal.returns-in-Some-Edit-clause-balanced
 returns-in-Some-Edit-clause-balanced g c =
-    for-command (command_of (map string_bytes c.args.words.now)) Edit (sym c.command_named.ensures ∙ c.in-Some-Edit.is ∙ ap Some c.in-Some-Edit.field-0-is) (λ (k : Command). c.run_edit.result ≡ Balanced → IsChecked k × Told (g.F.Shelf.files c.args.shelf.now) (g.F.Shelf.files c.run_edit.new.shelf) (Headline (map (λ b. new_seat ((g.dyn-1.0.entry b.vtable).1.name b.value) ((g.dyn-1.0.entry b.vtable).1.rule b.value)) c.args.reviewers.items) k WritesLeast)) (λ e. (tt, c.run_edit.ensures.balanced e))
+    for-command (command_of (map string_bytes c.args.words.now)) Edit (sym c.command_named.ensures ∙ c.in-Some-Edit.is ∙ ap Some c.in-Some-Edit.field-0-is) (λ (k : Command). c.run_edit.result ≡ Balanced → IsChecked k × Told (g.F.Shelf.files c.args.shelf.now) (g.F.Shelf.files c.run_edit.new.shelf) (Headline (map (λ b. new_seat ((g.dyn-1.0.entry b.vtable).1.name b.value) ((g.dyn-1.0.entry b.vtable).1.rule b.value)) c.args.reviewers.items) k (WritesLeast (g.K.Sink.sent c.args.out.now) (g.K.Sink.sent c.run_edit.new.out)))) (λ e. (tt, c.run_edit.ensures.balanced e))
 
 pub returns-in-Some-Edit-clause-infeasible : goal.returns-in-Some-Edit-clause-infeasible
 returns-in-Some-Edit-clause-infeasible g c =
-    for-command (command_of (map string_bytes c.args.words.now)) Edit (sym c.command_named.ensures ∙ c.in-Some-Edit.is ∙ ap Some c.in-Some-Edit.field-0-is) (λ (k : Command). c.run_edit.result ≡ Infeasible → MayBeInfeasible k × (IsChecked k → Told (g.F.Shelf.files c.args.shelf.now) (g.F.Shelf.files c.run_edit.new.shelf) (Headline (map (λ b. new_seat ((g.dyn-1.0.entry b.vtable).1.name b.value) ((g.dyn-1.0.entry b.vtable).1.rule b.value)) c.args.reviewers.items) k WritesCut))) (λ e. (tt, λ _. c.run_edit.ensures.infeasible e))
+    for-command (command_of (map string_bytes c.args.words.now)) Edit (sym c.command_named.ensures ∙ c.in-Some-Edit.is ∙ ap Some c.in-Some-Edit.field-0-is) (λ (k : Command). c.run_edit.result ≡ Infeasible → MayBeInfeasible k × (IsChecked k → Told (g.F.Shelf.files c.args.shelf.now) (g.F.Shelf.files c.run_edit.new.shelf) (Headline (map (λ b. new_seat ((g.dyn-1.0.entry b.vtable).1.name b.value) ((g.dyn-1.0.entry b.vtable).1.rule b.value)) c.args.reviewers.items) k (WritesCut (g.K.Sink.sent c.args.out.now) (g.K.Sink.sent c.run_edit.new.out))))) (λ e. (tt, λ _. c.run_edit.ensures.infeasible e))
 
 pub returns-in-Some-Edit-clause-migrated : goal.returns-in-Some-Edit-clause-migrated
 returns-in-Some-Edit-clause-migrated g c e = absurd (c.run_edit.ensures.migrated e)
@@ -131,11 +131,11 @@ returns-in-Some-Migrate-clause-complete g c =
 
 pub returns-in-Some-Migrate-clause-balanced : goal.returns-in-Some-Migrate-clause-balanced
 returns-in-Some-Migrate-clause-balanced g c =
-    for-command (command_of (map string_bytes c.args.words.now)) Migrate (sym c.command_named.ensures ∙ c.in-Some-Migrate.is ∙ ap Some c.in-Some-Migrate.field-0-is) (λ (k : Command). c.run_migrate.result ≡ Balanced → IsChecked k × Told (g.F.Shelf.files c.args.shelf.now) (g.F.Shelf.files c.run_migrate.new.shelf) (Headline (map (λ b. new_seat ((g.dyn-1.0.entry b.vtable).1.name b.value) ((g.dyn-1.0.entry b.vtable).1.rule b.value)) c.args.reviewers.items) k WritesLeast)) (λ e. absurd (c.run_migrate.ensures.balanced e))
+    for-command (command_of (map string_bytes c.args.words.now)) Migrate (sym c.command_named.ensures ∙ c.in-Some-Migrate.is ∙ ap Some c.in-Some-Migrate.field-0-is) (λ (k : Command). c.run_migrate.result ≡ Balanced → IsChecked k × Told (g.F.Shelf.files c.args.shelf.now) (g.F.Shelf.files c.run_migrate.new.shelf) (Headline (map (λ b. new_seat ((g.dyn-1.0.entry b.vtable).1.name b.value) ((g.dyn-1.0.entry b.vtable).1.rule b.value)) c.args.reviewers.items) k (WritesLeast (g.K.Sink.sent c.args.out.now) (g.K.Sink.sent c.run_migrate.new.out)))) (λ e. absurd (c.run_migrate.ensures.balanced e))
 
 pub returns-in-Some-Migrate-clause-infeasible : goal.returns-in-Some-Migrate-clause-infeasible
 returns-in-Some-Migrate-clause-infeasible g c =
-    for-command (command_of (map string_bytes c.args.words.now)) Migrate (sym c.command_named.ensures ∙ c.in-Some-Migrate.is ∙ ap Some c.in-Some-Migrate.field-0-is) (λ (k : Command). c.run_migrate.result ≡ Infeasible → MayBeInfeasible k × (IsChecked k → Told (g.F.Shelf.files c.args.shelf.now) (g.F.Shelf.files c.run_migrate.new.shelf) (Headline (map (λ b. new_seat ((g.dyn-1.0.entry b.vtable).1.name b.value) ((g.dyn-1.0.entry b.vtable).1.rule b.value)) c.args.reviewers.items) k WritesCut))) (λ e. absurd (c.run_migrate.ensures.infeasible e))
+    for-command (command_of (map string_bytes c.args.words.now)) Migrate (sym c.command_named.ensures ∙ c.in-Some-Migrate.is ∙ ap Some c.in-Some-Migrate.field-0-is) (λ (k : Command). c.run_migrate.result ≡ Infeasible → MayBeInfeasible k × (IsChecked k → Told (g.F.Shelf.files c.args.shelf.now) (g.F.Shelf.files c.run_migrate.new.shelf) (Headline (map (λ b. new_seat ((g.dyn-1.0.entry b.vtable).1.name b.value) ((g.dyn-1.0.entry b.vtable).1.rule b.value)) c.args.reviewers.items) k (WritesCut (g.K.Sink.sent c.args.out.now) (g.K.Sink.sent c.run_migrate.new.out))))) (λ e. absurd (c.run_migrate.ensures.infeasible e))
 
 pub returns-in-Some-Migrate-clause-migrated : goal.returns-in-Some-Migrate-clause-migrated
 returns-in-Some-Migrate-clause-migrated g c e = c.run_migrate.ensures.migrated e
@@ -171,11 +171,11 @@ returns-in-Some-Generate-clause-complete g c =
 
 pub returns-in-Some-Generate-clause-balanced : goal.returns-in-Some-Generate-clause-balanced
 returns-in-Some-Generate-clause-balanced g c =
-    for-command (command_of (map string_bytes c.args.words.now)) (Generate c.in-Some-Generate.seed c.in-Some-Generate.products c.in-Some-Generate.industries) (sym c.command_named.ensures ∙ c.in-Some-Generate.is ∙ ap Some c.in-Some-Generate.field-0-is) (λ (k : Command). c.run_generate.result ≡ Balanced → IsChecked k × Told (g.F.Shelf.files c.args.shelf.now) (g.F.Shelf.files c.run_generate.new.shelf) (Headline (map (λ b. new_seat ((g.dyn-1.0.entry b.vtable).1.name b.value) ((g.dyn-1.0.entry b.vtable).1.rule b.value)) c.args.reviewers.items) k WritesLeast)) (λ e. absurd (c.run_generate.ensures.balanced e))
+    for-command (command_of (map string_bytes c.args.words.now)) (Generate c.in-Some-Generate.seed c.in-Some-Generate.products c.in-Some-Generate.industries) (sym c.command_named.ensures ∙ c.in-Some-Generate.is ∙ ap Some c.in-Some-Generate.field-0-is) (λ (k : Command). c.run_generate.result ≡ Balanced → IsChecked k × Told (g.F.Shelf.files c.args.shelf.now) (g.F.Shelf.files c.run_generate.new.shelf) (Headline (map (λ b. new_seat ((g.dyn-1.0.entry b.vtable).1.name b.value) ((g.dyn-1.0.entry b.vtable).1.rule b.value)) c.args.reviewers.items) k (WritesLeast (g.K.Sink.sent c.args.out.now) (g.K.Sink.sent c.run_generate.new.out)))) (λ e. absurd (c.run_generate.ensures.balanced e))
 
 pub returns-in-Some-Generate-clause-infeasible : goal.returns-in-Some-Generate-clause-infeasible
 returns-in-Some-Generate-clause-infeasible g c =
-    for-command (command_of (map string_bytes c.args.words.now)) (Generate c.in-Some-Generate.seed c.in-Some-Generate.products c.in-Some-Generate.industries) (sym c.command_named.ensures ∙ c.in-Some-Generate.is ∙ ap Some c.in-Some-Generate.field-0-is) (λ (k : Command). c.run_generate.result ≡ Infeasible → MayBeInfeasible k × (IsChecked k → Told (g.F.Shelf.files c.args.shelf.now) (g.F.Shelf.files c.run_generate.new.shelf) (Headline (map (λ b. new_seat ((g.dyn-1.0.entry b.vtable).1.name b.value) ((g.dyn-1.0.entry b.vtable).1.rule b.value)) c.args.reviewers.items) k WritesCut))) (λ e. absurd (c.run_generate.ensures.infeasible e))
+    for-command (command_of (map string_bytes c.args.words.now)) (Generate c.in-Some-Generate.seed c.in-Some-Generate.products c.in-Some-Generate.industries) (sym c.command_named.ensures ∙ c.in-Some-Generate.is ∙ ap Some c.in-Some-Generate.field-0-is) (λ (k : Command). c.run_generate.result ≡ Infeasible → MayBeInfeasible k × (IsChecked k → Told (g.F.Shelf.files c.args.shelf.now) (g.F.Shelf.files c.run_generate.new.shelf) (Headline (map (λ b. new_seat ((g.dyn-1.0.entry b.vtable).1.name b.value) ((g.dyn-1.0.entry b.vtable).1.rule b.value)) c.args.reviewers.items) k (WritesCut (g.K.Sink.sent c.args.out.now) (g.K.Sink.sent c.run_generate.new.out))))) (λ e. absurd (c.run_generate.ensures.infeasible e))
 
 pub returns-in-Some-Generate-clause-migrated : goal.returns-in-Some-Generate-clause-migrated
 returns-in-Some-Generate-clause-migrated g c e = absurd (c.run_generate.ensures.migrated e)
@@ -202,11 +202,11 @@ returns-in-None-clause-complete g c =
 
 pub returns-in-None-clause-balanced : goal.returns-in-None-clause-balanced
 returns-in-None-clause-balanced g c =
-    subst (λ o. IfSome o (λ (k : Command). Usage ≡ Balanced → IsChecked k × Told (g.F.Shelf.files c.args.shelf.now) (g.F.Shelf.files c.args.shelf.now) (Headline (map (λ b. new_seat ((g.dyn-1.0.entry b.vtable).1.name b.value) ((g.dyn-1.0.entry b.vtable).1.rule b.value)) c.args.reviewers.items) k WritesLeast))) (sym (sym c.command_named.ensures ∙ c.in-None.is)) tt
+    subst (λ o. IfSome o (λ (k : Command). Usage ≡ Balanced → IsChecked k × Told (g.F.Shelf.files c.args.shelf.now) (g.F.Shelf.files c.args.shelf.now) (Headline (map (λ b. new_seat ((g.dyn-1.0.entry b.vtable).1.name b.value) ((g.dyn-1.0.entry b.vtable).1.rule b.value)) c.args.reviewers.items) k (WritesLeast (g.K.Sink.sent c.args.out.now) (g.K.Sink.sent c.args.out.now))))) (sym (sym c.command_named.ensures ∙ c.in-None.is)) tt
 
 pub returns-in-None-clause-infeasible : goal.returns-in-None-clause-infeasible
 returns-in-None-clause-infeasible g c =
-    subst (λ o. IfSome o (λ (k : Command). Usage ≡ Infeasible → MayBeInfeasible k × (IsChecked k → Told (g.F.Shelf.files c.args.shelf.now) (g.F.Shelf.files c.args.shelf.now) (Headline (map (λ b. new_seat ((g.dyn-1.0.entry b.vtable).1.name b.value) ((g.dyn-1.0.entry b.vtable).1.rule b.value)) c.args.reviewers.items) k WritesCut)))) (sym (sym c.command_named.ensures ∙ c.in-None.is)) tt
+    subst (λ o. IfSome o (λ (k : Command). Usage ≡ Infeasible → MayBeInfeasible k × (IsChecked k → Told (g.F.Shelf.files c.args.shelf.now) (g.F.Shelf.files c.args.shelf.now) (Headline (map (λ b. new_seat ((g.dyn-1.0.entry b.vtable).1.name b.value) ((g.dyn-1.0.entry b.vtable).1.rule b.value)) c.args.reviewers.items) k (WritesCut (g.K.Sink.sent c.args.out.now) (g.K.Sink.sent c.args.out.now)))))) (sym (sym c.command_named.ensures ∙ c.in-None.is)) tt
 
 pub returns-in-Some-Balance-clause-untouched : goal.returns-in-Some-Balance-clause-untouched
 returns-in-Some-Balance-clause-untouched g c e =
