@@ -1,5 +1,5 @@
 -- A delivery after the reading part, and what each answer says.
-use Rattle.std.proofs.Common.{◌≡◌, ◌≤◌, ◌∙◌, ℕ, ℤ, zero, suc, List, [], ◌∷◌, ◌++◌, map, length, Option, Some, None, Result, Ok, Err, Contains, IfSome, inl, inr, refl, sym, ap, subst, arith}
+use Rattle.std.proofs.Common.{◌≡◌, ◌≤◌, ◌∙◌, ◌⊎◌, ℕ, ℤ, zero, suc, List, [], ◌∷◌, ◌++◌, map, length, Option, Some, None, Result, Ok, Err, Contains, IfSome, inl, inr, refl, sym, ap, subst, arith}
 use Rattle.std.specs.Prelude.{IsOk}
 use Rattle.sut_outside.specs.declared.names.FileName.{FileName}
 use Rattle.sut_outside.specs.declared.names.FileName.TheVariants.{SourceCsv, BalancedCsv, SupplyCsv, UseCsv, AccountsCsv, CertificateCsv, ReportJson}
@@ -24,14 +24,15 @@ use Rattle.sut_input.specs.declared.faults.InputFault.TheVariants as fault
 use Rattle.sut_status.specs.declared.statuses.Status.{Status}
 use Rattle.sut_status.specs.declared.statuses.Status.TheVariants.{Balanced, Generated, Migrated, Published, Ranged, Series, Shared, NoMemory, Usage, Infeasible, WriteFault, SinkFault}
 use Rattle.sut_run.specs.declared.commands.Command.{Command}
-use Rattle.sut_run.specs.declared.commands.Command.TheVariants.{Balance}
+use Rattle.sut_run.specs.declared.commands.Command.TheVariants.{Balance, Edit, Migrate, Generate}
 use Rattle.sut_run.specs.Commands.{answer_names, read_names, written_names}
 use Rattle.sut_run.specs.Inputs.{Given, for_balance, input_of, refused, to_balance}
 use Rattle.sut_editing.specs.Shown.{seats_shown}
 use Rattle.sut_run.specs.Deliveries.{Delivery, Gives, GivesAnswer, answer_files, review_files, status_of}
 use Rattle.sut_run.specs.Prepared.{IsPrepared}
 use Rattle.sut_run.specs.Steps.{Delivered, FailsWriting, IfReadFault, IfWriteFault, SameSent, StopsDelivery, StopsWriting, WritesEnd}
-use Rattle.sut_run.specs.Ends.{AnswersInput, Delivers, DeliversRight, IsDone, Stands}
+use Rattle.sut_run.specs.Ends.{AnswersInput, Delivers, DeliversRight, IsDone, IsEndOf, Stands}
+use Rattle.sut_run.specs.Ready.{IsRefusal, IsRefused}
 
 pub sent-same : (sent : Option (List ℕ)) → Told sent sent SameSent
 sent-same None = tt
@@ -74,20 +75,8 @@ refused-answers seats c step next is (Some files) (fault.BadSettings e) h = give
 refused-answers seats c step next is (Some files) (fault.BadClasses e) h = given-for seats c step next is None files (Err (fault.BadClasses e)) h
 refused-answers seats c step next is (Some files) (fault.BadSource e) h = given-for seats c step next is None files (Err (fault.BadSource e)) h
 
-pub balance-answers : (seats : List SeatFacts) (held : Option Files) (f : InputFault) → IfSome held (λ files. Refuses (problem_in SourceCsv) files f) → IfSome held (λ files. AnswersInput seats Balance files (refused f))
+balance-answers : (seats : List SeatFacts) (held : Option Files) (f : InputFault) → IfSome held (λ files. Refuses (problem_in SourceCsv) files f) → IfSome held (λ files. AnswersInput seats Balance files (refused f))
 balance-answers seats held f h = refused-answers seats Balance (problem_in SourceCsv) for_balance (λ failed files. refl) held f h
-
-refused-stands : (seats : List SeatFacts) (c : Command) (f : InputFault) (sent : Option (List ℕ)) (old new : Files) → SameFiles old new → Stands seats c (refused f) sent sent old new
-refused-stands seats c fault.NoMemory sent old new same = inl (same, sent-same sent)
-refused-stands seats c (fault.ReadFault n) sent old new same = (same, sent-same sent)
-refused-stands seats c (fault.Missing n) sent old new same = (same, sent-same sent)
-refused-stands seats c (fault.TooLong n) sent old new same = (same, sent-same sent)
-refused-stands seats c (fault.BadSettings e) sent old new same = (same, sent-same sent)
-refused-stands seats c (fault.BadClasses e) sent old new same = (same, sent-same sent)
-refused-stands seats c (fault.BadSource e) sent old new same = (same, sent-same sent)
-
-pub refused-told : (seats : List SeatFacts) (c : Command) (f : InputFault) (sent : Option (List ℕ)) (old new : Option Files) → Told old new SameFiles → Told old new (Stands seats c (refused f) sent sent)
-refused-told seats c f sent old new kept = told_as SameFiles (Stands seats c (refused f) sent sent) (refused-stands seats c f sent) old new kept
 
 pub refused-reads : (names : List FileName) (f : InputFault) (before now : ℕ) (last : Option FileName) → FailsAmong names before now last f
     → IfReadFault (refused f) (λ failed. Rose before now × (last ≡ Some failed) × Contains names failed)
@@ -99,29 +88,6 @@ refused-reads names (fault.BadSettings e) before now last h = tt
 refused-reads names (fault.BadClasses e) before now last h = tt
 refused-reads names (fault.BadSource e) before now last h = tt
 
-pub refused-writes : (f : InputFault) (P : FileName → Type 0) → IfWriteFault (refused f) P
-refused-writes fault.NoMemory P = tt
-refused-writes (fault.ReadFault n) P = tt
-refused-writes (fault.Missing n) P = tt
-refused-writes (fault.TooLong n) P = tt
-refused-writes (fault.BadSettings e) P = tt
-refused-writes (fault.BadClasses e) P = tt
-refused-writes (fault.BadSource e) P = tt
-
--- a test that only some statuses pass
-abbrev pub IsRefusal : Status → Type 0
-IsRefusal Balanced = ⊥
-IsRefusal Generated = ⊥
-IsRefusal Migrated = ⊥
-IsRefusal Published = ⊥
-IsRefusal Ranged = ⊥
-IsRefusal Series = ⊥
-IsRefusal Shared = ⊥
-IsRefusal Infeasible = ⊥
-IsRefusal SinkFault = ⊥
-IsRefusal Usage = ⊥
-IsRefusal _ = Unit {0}
-
 pub is-refusal : (f : InputFault) → IsRefusal (refused f)
 is-refusal fault.NoMemory = tt
 is-refusal (fault.ReadFault n) = tt
@@ -130,6 +96,52 @@ is-refusal (fault.TooLong n) = tt
 is-refusal (fault.BadSettings e) = tt
 is-refusal (fault.BadClasses e) = tt
 is-refusal (fault.BadSource e) = tt
+
+-- the year's files are refused
+pub balance-refused : (seats : List SeatFacts) (held : Option Files) (f : InputFault) (before now : ℕ) (last : Option FileName) → IfSome held (λ files. Refuses (problem_in SourceCsv) files f) → FailsAmong (problem_names SourceCsv) before now last f
+    → IsRefused seats Balance held before now last (refused f)
+balance-refused seats held f before now last h fails = record {
+  refusal = is-refusal f;
+  answers = balance-answers seats held f h;
+  cause = refused-reads (problem_names SourceCsv) f before now last fails;
+}
+
+-- want of memory refuses any input
+pub memory-refused : (seats : List SeatFacts) (c : Command) (held : Option Files) (before now : ℕ) (last : Option FileName) → IsRefused seats c held before now last NoMemory
+memory-refused seats c held before now last = record { refusal = tt; answers = whatever held; cause = tt }
+
+-- a refusal leaves all as it was
+refusal-stands : (seats : List SeatFacts) (c : Command) (s : Status) → IsRefusal s → (sent : Option (List ℕ)) (old new : Files) → SameFiles old new → Stands seats c s sent sent old new
+refusal-stands seats c NoMemory is sent old new same = inl (same, sent-same sent)
+refusal-stands seats c Balanced is sent old new same = absurd is
+refusal-stands seats c Generated is sent old new same = absurd is
+refusal-stands seats c Migrated is sent old new same = absurd is
+refusal-stands seats c Published is sent old new same = absurd is
+refusal-stands seats c Ranged is sent old new same = absurd is
+refusal-stands seats c Series is sent old new same = absurd is
+refusal-stands seats c Shared is sent old new same = absurd is
+refusal-stands seats c Infeasible is sent old new same = absurd is
+refusal-stands seats c (WriteFault n) is sent old new same = absurd is
+refusal-stands seats c SinkFault is sent old new same = absurd is
+refusal-stands seats c _ is sent old new same = (same, sent-same sent)
+
+pub refusal-told : (seats : List SeatFacts) (c : Command) (s : Status) → IsRefusal s → (sent : Option (List ℕ)) (old new : Option Files) → Told old new SameFiles → Told old new (Stands seats c s sent sent)
+refusal-told seats c s is sent old new kept = told_as SameFiles (Stands seats c s sent sent) (refusal-stands seats c s is sent) old new kept
+
+pub refusal-writes : (s : Status) → IsRefusal s → (P : FileName → Type 0) → IfWriteFault s P
+refusal-writes (WriteFault n) is P = absurd is
+refusal-writes _ is P = tt
+
+pub refusal-not-done : (s : Status) → IsRefusal s → IsDone s → ⊥
+refusal-not-done Balanced is done = is
+refusal-not-done Generated is done = is
+refusal-not-done Migrated is done = is
+refusal-not-done Published is done = is
+refusal-not-done Ranged is done = is
+refusal-not-done Series is done = is
+refusal-not-done Shared is done = is
+refusal-not-done Infeasible is done = is
+refusal-not-done _ is done = done
 
 -- ---- a delivery
 
@@ -204,15 +216,6 @@ failed-answers seats c input names _ stops (Some files) h = absurd stops
 
 -- ---- faults of devices
 
-pub answer-done : (a : Answer) (done : Status) → done ≡ status_of a → IsDone done
-answer-done (answer.Balanced t ps) done ends = subst IsDone (sym ends) tt
-answer-done (answer.Infeasible set) done ends = subst IsDone (sym ends) tt
-
--- no answer to a problem migrates classes
-pub answer-no-migration : (a : Answer) (done : Status) → done ≡ status_of a → done ≡ Migrated → ⊥
-answer-no-migration (answer.Balanced t ps) done ends e = cc
-answer-no-migration (answer.Infeasible set) done ends e = cc
-
 pub done-reads : (done : Status) → IsDone done → (P : FileName → Type 0) → IfReadFault done P
 done-reads Balanced is P = tt
 done-reads Generated is P = tt
@@ -276,19 +279,25 @@ failed-writes c names within NoMemory stops before between now last later cause 
 failed-writes c names within SinkFault stops before between now last later cause = tt
 failed-writes c names within _ stops before between now last later cause = absurd stops
 
--- a test that the statuses of a delivery that stopped pass
-abbrev pub IsStop : Status → Type 0
-IsStop Balanced = ⊥
-IsStop Infeasible = ⊥
-IsStop Migrated = ⊥
-IsStop Usage = ⊥
-IsStop _ = Unit {0}
+-- a delivery that stopped is not done
+pub stopped-not-done : (names : List FileName) (stopped : Status) → StopsDelivery names stopped → IsDone stopped → ⊥
+stopped-not-done names NoMemory stops done = done
+stopped-not-done names (WriteFault n) stops done = done
+stopped-not-done names SinkFault stops done = done
+stopped-not-done names _ stops done = stops
 
-pub is-stop : (names : List FileName) (stopped : Status) → StopsDelivery names stopped → IsStop stopped
-is-stop names NoMemory stops = tt
-is-stop names (WriteFault n) stops = tt
-is-stop names SinkFault stops = tt
-is-stop names _ stops = absurd stops
+-- an answer of a command is one with which it is done
+pub end-done : (c : Command) (s : Status) → IsEndOf c s → IsDone s
+end-done Balance s (inl e) = subst IsDone (sym e) tt
+end-done Balance s (inr e) = subst IsDone (sym e) tt
+end-done Edit s (inl e) = subst IsDone (sym e) tt
+end-done Edit s (inr e) = subst IsDone (sym e) tt
+end-done Migrate s e = subst IsDone (sym e) tt
+end-done (Generate seed products industries) s e = subst IsDone (sym e) tt
+
+pub answer-ends : (a : Answer) (done : Status) → done ≡ status_of a → (done ≡ Balanced) ⊎ (done ≡ Infeasible)
+answer-ends (answer.Balanced t ps) done ends = inl ends
+answer-ends (answer.Infeasible set) done ends = inr ends
 
 -- ---- what right answers have
 

@@ -36,9 +36,10 @@ use Rattle.sut_run.specs.Inputs.{edit_stopped, edits_refused, for_edit, input_of
 use Rattle.sut_run.specs.Outputs.{review_in}
 use Rattle.sut_run.specs.Deliveries.{GivesEdits, ReadsBack, SpellsSource, answer_files, edit_lines, edited_files, review_files, status_of}
 use Rattle.sut_run.specs.Prepared.{IsPreparedEdit, PreparesEdit}
-use Rattle.sut_run.specs.Steps.{IfReadFault, IfWriteFault}
-use Rattle.sut_run.specs.Ends.{AnswersInput, Stands}
-use Rattle.sut_run.proofs.Delivered.{IsRefusal, is-refusal, names-within, sent-same}
+use Rattle.sut_run.specs.Steps.{IfReadFault}
+use Rattle.sut_run.specs.Ends.{AnswersInput}
+use Rattle.sut_run.specs.Ready.{IsRefusal, IsRefused}
+use Rattle.sut_run.proofs.Delivered.{is-refusal, names-within}
 
 -- ---- edits that are not read
 
@@ -47,7 +48,7 @@ module _ (seats : List SeatFacts) where
       → input_of seats Edit failed files ≡ and_then (fault_as edits_refused r) (for_edit (standing_labels seats))
   read-for failed files r e = ap (λ w. and_then (fault_as edits_refused w) (for_edit (standing_labels seats))) e
 
-  pub edits-answers : (held : Option Files) (f : EditInputFault) → IfSome held (λ files. RefusesEdits edit_input_in files f) → IfSome held (λ files. AnswersInput seats Edit files (edits_refused f))
+  edits-answers : (held : Option Files) (f : EditInputFault) → IfSome held (λ files. RefusesEdits edit_input_in files f) → IfSome held (λ files. AnswersInput seats Edit files (edits_refused f))
   edits-answers None f h = tt
   edits-answers (Some files) (edits.Input fault.NoMemory) h = tt
   edits-answers (Some files) (edits.Input (fault.ReadFault n)) h = read-for (Some n) files (Err (edits.Input (fault.ReadFault n))) h
@@ -58,20 +59,7 @@ module _ (seats : List SeatFacts) where
   edits-answers (Some files) (edits.Input (fault.BadSource e)) h = read-for None files (Err (edits.Input (fault.BadSource e))) h
   edits-answers (Some files) (edits.BadEdits e) h = read-for None files (Err (edits.BadEdits e)) h
 
-  edits-stand : (f : EditInputFault) (sent : Option (List ℕ)) (old new : Files) → SameFiles old new → Stands seats Edit (edits_refused f) sent sent old new
-  edits-stand (edits.Input fault.NoMemory) sent old new same = inl (same, sent-same sent)
-  edits-stand (edits.Input (fault.ReadFault n)) sent old new same = (same, sent-same sent)
-  edits-stand (edits.Input (fault.Missing n)) sent old new same = (same, sent-same sent)
-  edits-stand (edits.Input (fault.TooLong n)) sent old new same = (same, sent-same sent)
-  edits-stand (edits.Input (fault.BadSettings e)) sent old new same = (same, sent-same sent)
-  edits-stand (edits.Input (fault.BadClasses e)) sent old new same = (same, sent-same sent)
-  edits-stand (edits.Input (fault.BadSource e)) sent old new same = (same, sent-same sent)
-  edits-stand (edits.BadEdits e) sent old new same = (same, sent-same sent)
-
-  pub edits-told : (f : EditInputFault) (sent : Option (List ℕ)) (old new : Option Files) → Told old new SameFiles → Told old new (Stands seats Edit (edits_refused f) sent sent)
-  edits-told f sent old new kept = told_as SameFiles (Stands seats Edit (edits_refused f) sent sent) (edits-stand f sent) old new kept
-
-pub edits-reads : (f : EditInputFault) (before now : ℕ) (last : Option FileName) → FailsIn edit_names before now last f
+edits-reads : (f : EditInputFault) (before now : ℕ) (last : Option FileName) → FailsIn edit_names before now last f
     → IfReadFault (edits_refused f) (λ failed. Rose before now × (last ≡ Some failed) × Contains (read_names Edit) failed)
 edits-reads (edits.Input fault.NoMemory) before now last h = tt
 edits-reads (edits.Input (fault.ReadFault n)) before now last h = h
@@ -82,17 +70,7 @@ edits-reads (edits.Input (fault.BadClasses e)) before now last h = tt
 edits-reads (edits.Input (fault.BadSource e)) before now last h = tt
 edits-reads (edits.BadEdits e) before now last h = tt
 
-pub edits-writes : (f : EditInputFault) (P : FileName → Type 0) → IfWriteFault (edits_refused f) P
-edits-writes (edits.Input fault.NoMemory) P = tt
-edits-writes (edits.Input (fault.ReadFault n)) P = tt
-edits-writes (edits.Input (fault.Missing n)) P = tt
-edits-writes (edits.Input (fault.TooLong n)) P = tt
-edits-writes (edits.Input (fault.BadSettings e)) P = tt
-edits-writes (edits.Input (fault.BadClasses e)) P = tt
-edits-writes (edits.Input (fault.BadSource e)) P = tt
-edits-writes (edits.BadEdits e) P = tt
-
-pub is-edits-refusal : (f : EditInputFault) → IsRefusal (edits_refused f)
+is-edits-refusal : (f : EditInputFault) → IsRefusal (edits_refused f)
 is-edits-refusal (edits.Input f) = is-refusal f
 is-edits-refusal (edits.BadEdits e) = tt
 
@@ -104,7 +82,7 @@ module _ (seats : List SeatFacts) (s : SettingsFacts) (p : ProblemFacts) (lines 
   stopped-there files (stop.Refused e) read h =
       read-for seats None files (Ok ((s, p), lines)) read ∙ ap (λ r. and_then (fault_as BadEdits r) (λ m. Ok (to_edit s m))) h
 
-  pub stopped-answers : (held : Option Files) (f : EditingFault) → IfSome held (λ files. edit_input_in None files ≡ Ok ((s, p), lines)) → IfRefused f (λ e. moments_of (standing_labels seats) p lines ≡ Err e)
+  stopped-answers : (held : Option Files) (f : EditingFault) → IfSome held (λ files. edit_input_in None files ≡ Ok ((s, p), lines)) → IfRefused f (λ e. moments_of (standing_labels seats) p lines ≡ Err e)
       → IfSome held (λ files. AnswersInput seats Edit files (edit_stopped f))
   stopped-answers None f read h = tt
   stopped-answers (Some files) f read h = stopped-there files f read h
@@ -114,24 +92,30 @@ module _ (seats : List SeatFacts) (s : SettingsFacts) (p : ProblemFacts) (lines 
   edits-given None m read h = tt
   edits-given (Some files) m read h = read-for seats None files (Ok ((s, p), lines)) read ∙ ap (λ r. and_then (fault_as BadEdits r) (λ x. Ok (to_edit s x))) h
 
-stopped-stands : (seats : List SeatFacts) (f : EditingFault) (sent : Option (List ℕ)) (old new : Files) → SameFiles old new → Stands seats Edit (edit_stopped f) sent sent old new
-stopped-stands seats stop.NoMemory sent old new same = inl (same, sent-same sent)
-stopped-stands seats (stop.Refused e) sent old new same = (same, sent-same sent)
-
-pub stopped-told : (seats : List SeatFacts) (f : EditingFault) (sent : Option (List ℕ)) (old new : Option Files) → Told old new SameFiles → Told old new (Stands seats Edit (edit_stopped f) sent sent)
-stopped-told seats f sent old new kept = told_as SameFiles (Stands seats Edit (edit_stopped f) sent sent) (stopped-stands seats f sent) old new kept
-
-pub stopped-reads : (f : EditingFault) (P : FileName → Type 0) → IfReadFault (edit_stopped f) P
+stopped-reads : (f : EditingFault) (P : FileName → Type 0) → IfReadFault (edit_stopped f) P
 stopped-reads stop.NoMemory P = tt
 stopped-reads (stop.Refused e) P = tt
 
-pub stopped-writes : (f : EditingFault) (P : FileName → Type 0) → IfWriteFault (edit_stopped f) P
-stopped-writes stop.NoMemory P = tt
-stopped-writes (stop.Refused e) P = tt
-
-pub is-stopped-refusal : (f : EditingFault) → IsRefusal (edit_stopped f)
+is-stopped-refusal : (f : EditingFault) → IsRefusal (edit_stopped f)
 is-stopped-refusal stop.NoMemory = tt
 is-stopped-refusal (stop.Refused e) = tt
+
+-- edits are refused, when they are read or when they are taken
+pub edits-refused : (seats : List SeatFacts) (held : Option Files) (f : EditInputFault) (before now : ℕ) (last : Option FileName) → IfSome held (λ files. RefusesEdits edit_input_in files f) → FailsIn edit_names before now last f
+    → IsRefused seats Edit held before now last (edits_refused f)
+edits-refused seats held f before now last h fails = record {
+  refusal = is-edits-refusal f;
+  answers = edits-answers seats held f h;
+  cause = edits-reads f before now last fails;
+}
+
+pub stopped-refused : (seats : List SeatFacts) (s : SettingsFacts) (p : ProblemFacts) (lines : List EditLine) (held : Option Files) (f : EditingFault) (before now : ℕ) (last : Option FileName) → IfSome held (λ files. edit_input_in None files ≡ Ok ((s, p), lines))
+    → IfRefused f (λ e. moments_of (standing_labels seats) p lines ≡ Err e) → IsRefused seats Edit held before now last (edit_stopped f)
+stopped-refused seats s p lines held f before now last read h = record {
+  refusal = is-stopped-refusal f;
+  answers = stopped-answers seats s p lines held f read h;
+  cause = stopped-reads f _;
+}
 
 -- ---- what was made
 

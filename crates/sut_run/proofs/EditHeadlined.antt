@@ -1,12 +1,11 @@
 -- What the written files of a run of edits say by themselves.
-use Rattle.std.proofs.Common.{◌≡◌, ◌≤◌, ◌∙◌, ℕ, ℤ, Bool, true, false, List, [], ◌∷◌, ◌++◌, Option, Some, None, Result, Ok, Err, IfSome, length, refl, sym, ap, subst}
+use Rattle.std.proofs.Common.{◌≡◌, ◌≤◌, ◌∙◌, ℕ, ℤ, Bool, true, false, List, [], ◌∷◌, ◌++◌, Option, Some, None, Result, Ok, Err, IfSome, length, map, refl, sym, ap, subst}
 use Rattle.std.specs.Prelude.{IsTrue, if◌then◌else◌, nat_le}
 use Rattle.std.proofs.lemmas.Bool.{le-leb}
 use Rattle.sut_outside.specs.declared.names.FileName.{FileName}
-use Rattle.sut_outside.specs.declared.names.FileName.TheVariants.{SettingsToml, ClassesCsv, SourceCsv, EditedCsv, TrailCsv, BalancedCsv, CertificateCsv, ReviewCsv}
+use Rattle.sut_outside.specs.declared.names.FileName.TheVariants.{SettingsToml, ClassesCsv, SourceCsv, EditedCsv, TrailCsv, ReviewCsv}
 use Rattle.sut_outside.specs.declared.shelf.TheConstants.{FILE_LIMIT}
-use Rattle.sut_outside.specs.Files.{Files, SameFiles, Told}
-use Rattle.sut_outside.proofs.Told.{told_then, told_with}
+use Rattle.sut_outside.specs.Files.{Files, Told}
 use Rattle.sut_outside.specs.Deliveries.{WrittenAll, after_writes, same_name}
 use Rattle.sut_outside.specs.Entry.{bytes_or}
 use Rattle.sut_records.specs.FirstFault.{and_then, fault_as}
@@ -19,15 +18,9 @@ use Rattle.sut_source.specs.SourceFile.{problem_from, source_line, source_of, un
 use Rattle.sut_source.specs.SourceText.{source_text}
 use Rattle.sut_source.specs.declared.faults.SourceFault.{SourceFault}
 use Rattle.sut_tables.specs.ProblemFacts.{ProblemFacts}
-use Rattle.sut_tables.proofs.OneGdp.{production-income, expenditure-income}
 use Rattle.sut_edits.specs.declared.edits.EditLine.{EditLine}
 use Rattle.sut_cert.specs.declared.answers.Answer.{Answer}
 use Rattle.sut_cert.specs.declared.answers.Answer.TheVariants as answer
-use Rattle.sut_cert.specs.declared.certificates.Certificate.TheVariants as certificate
-use Rattle.sut_cert.specs.CertificateFile.{certificate_of}
-use Rattle.sut_cert.specs.CertificateText.{certificate_text}
-use Rattle.sut_readback.specs.BalancedFile.{balanced_of}
-use Rattle.sut_readback.specs.BalancedText.{balanced_text}
 use Rattle.sut_write.specs.Screen.{screen_text}
 use Rattle.sut_input.specs.Inputs.{problem_in}
 use Rattle.sut_input.specs.EditInputs.{edit_input_in, edited_in, edits_in}
@@ -41,14 +34,15 @@ use Rattle.sut_editing.specs.Events.{IsAnswer}
 use Rattle.sut_editing.specs.Shown.{rebalances_text, seats_after, trail_text}
 use Rattle.sut_editing.proofs.Finishing.{same-classes}
 use Rattle.sut_status.specs.declared.statuses.Status.{Status}
-use Rattle.sut_status.specs.declared.statuses.Status.TheVariants.{Balanced, Infeasible}
 use Rattle.sut_run.specs.declared.commands.Command.TheVariants.{Edit}
 use Rattle.sut_run.specs.Inputs.{input_of, to_edit}
-use Rattle.sut_run.specs.Deliveries.{ReadsBack, SpellsSource, answer_files, review_files, status_of}
-use Rattle.sut_run.specs.Prepared.{IsPreparedEdit}
-use Rattle.sut_run.specs.Headlines.{Headline, WritesCut, WritesLeast}
-use Rattle.sut_run.specs.Steps.{Delivered, Sends}
-use Rattle.sut_run.proofs.Headlined.{problem-by, problem_by, sends-last, spelled, stands-at, tells-answer}
+use Rattle.sut_run.specs.Deliveries.{ReadsBack, SpellsSource, answer_files, status_of}
+use Rattle.sut_run.specs.Prepared.{IsPreparedEdit, PreparesEdit}
+use Rattle.sut_run.specs.Ready.{IsReady, Promises}
+use Rattle.sut_run.specs.Steps.{Sends}
+use Rattle.sut_run.proofs.Delivered.{answer-ends}
+use Rattle.sut_run.proofs.EditDelivered.{edit-names-within, edits-given, gives-edits}
+use Rattle.sut_run.proofs.Headlined.{problem-by, problem_by, sends-last, stands-at, writes-cut, writes-least}
 
 -- ---- the rows after all edits, read back in the place of the source
 
@@ -138,63 +132,45 @@ problem-read files s p lines h = problem-first (problem_in SourceCsv None files)
 -- ---- the headline
 
 module _ (seats : List SeatFacts) (s : SettingsFacts) (p : ProblemFacts) (lines : List EditLine) (m : Moments) (are : moments_of (standing_labels seats) p lines ≡ Ok m) where
-  edit-balanced : (a : Answer) → IsAnswer m.last a → ReadsBack m.last a → SpellsSource s m.last → status_of a ≡ Balanced → (trail : List ℕ) (old now new : Files) → SameFiles old now → problem_in SourceCsv None old ≡ Ok (s, p) → input_of seats Edit None old ≡ Ok (to_edit s m)
-      → ((name : FileName) → same_name name ReviewCsv ≡ false → new name ≡ after_writes ((EditedCsv, source_text s m.last) ∷ (TrailCsv, trail) ∷ answer_files m.last a) now name) → (before after : Option (List ℕ)) (front : List ℕ) → Told before after (Sends (front ++ screen_text m.last a)) → Headline seats Edit (WritesLeast before after) old new
-  edit-balanced (answer.Infeasible set) is_right reads spells ends trail old now new same read given at before after front sent = absurd cc
-  edit-balanced (answer.Balanced t ps) is_right reads spells ends trail old now new same read given at before after front sent = record {
+  -- what the files of the last answer promise
+  edit-promises : (a : Answer) → IsAnswer m.last a → ReadsBack m.last a → SpellsSource s m.last → (trail : List ℕ) (old new : Files) → problem_in SourceCsv None old ≡ Ok (s, p) → input_of seats Edit None old ≡ Ok (to_edit s m)
+      → ((name : FileName) → same_name name ReviewCsv ≡ false → new name ≡ after_writes ((EditedCsv, source_text s m.last) ∷ (TrailCsv, trail) ∷ answer_files m.last a) old name)
+      → (before after : Option (List ℕ)) (front : List ℕ) → Told before after (Sends (front ++ screen_text m.last a)) → Promises seats Edit (status_of a) before after old new
+  edit-promises (answer.Balanced t ps) is_right reads spells trail old new read given at before after front sent = record {
     problem = m.last;
     settings = s;
     given = (m, given, refl);
-    spelled = rows-spelled old new s p m.last read (at SettingsToml refl ∙ same SettingsToml) (at ClassesCsv refl ∙ same ClassesCsv) (at EditedCsv refl) (same-classes (standing_labels seats) p lines m are) spells;
-    written = record {
-      table = t;
-      shown_by = ps;
-      told = tells-answer m.last (answer.Balanced t ps) ((EditedCsv, source_text s m.last) ∷ (TrailCsv, trail) ∷ []) now new at before after (sends-last front (screen_text m.last (answer.Balanced t ps)) before after sent);
-      table_spelled = spelled (new BalancedCsv) (balanced_text m.last t) (balanced_of m.last) t (at BalancedCsv refl) reads.0.short reads.0.read;
-      certificate_spelled = spelled (new CertificateCsv) (certificate_text m.last.classes (certificate.Potentials ps)) (certificate_of m.last) (certificate.Potentials ps) (at CertificateCsv refl) reads.1.short reads.1.read;
-      least = is_right.right.least;
-      one_gdp = record {
-        by_income = sym (production-income t is_right.right.least.admissible.identities);
-        by_expenditure = expenditure-income t is_right.right.least.admissible.identities ∙ sym (production-income t is_right.right.least.admissible.identities);
-      };
-      shown = is_right.right.shown;
-    };
+    spelled = rows-spelled old new s p m.last read (at SettingsToml refl) (at ClassesCsv refl) (at EditedCsv refl) (same-classes (standing_labels seats) p lines m are) spells;
+    written = writes-least m.last t ps is_right.right reads ((EditedCsv, source_text s m.last) ∷ (TrailCsv, trail) ∷ []) old new at before after (sends-last front (screen_text m.last (answer.Balanced t ps)) before after sent);
   }
-
-  edit-infeasible : (a : Answer) → IsAnswer m.last a → ReadsBack m.last a → SpellsSource s m.last → status_of a ≡ Infeasible → (trail : List ℕ) (old now new : Files) → SameFiles old now → problem_in SourceCsv None old ≡ Ok (s, p) → input_of seats Edit None old ≡ Ok (to_edit s m)
-      → ((name : FileName) → same_name name ReviewCsv ≡ false → new name ≡ after_writes ((EditedCsv, source_text s m.last) ∷ (TrailCsv, trail) ∷ answer_files m.last a) now name) → (before after : Option (List ℕ)) (front : List ℕ) → Told before after (Sends (front ++ screen_text m.last a)) → Headline seats Edit (WritesCut before after) old new
-  edit-infeasible (answer.Balanced t ps) is_right reads spells ends trail old now new same read given at before after front sent = absurd cc
-  edit-infeasible (answer.Infeasible set) is_right reads spells ends trail old now new same read given at before after front sent = record {
+  edit-promises (answer.Infeasible set) is_right reads spells trail old new read given at before after front sent = λ checked. record {
     problem = m.last;
     settings = s;
     given = (m, given, refl);
-    spelled = rows-spelled old new s p m.last read (at SettingsToml refl ∙ same SettingsToml) (at ClassesCsv refl ∙ same ClassesCsv) (at EditedCsv refl) (same-classes (standing_labels seats) p lines m are) spells;
-    written = record {
-      set = set;
-      told = tells-answer m.last (answer.Infeasible set) ((EditedCsv, source_text s m.last) ∷ (TrailCsv, trail) ∷ []) now new at before after (sends-last front (screen_text m.last (answer.Infeasible set)) before after sent);
-      spelled = spelled (new CertificateCsv) (certificate_text m.last.classes (certificate.Cut set)) (certificate_of m.last) (certificate.Cut set) (at CertificateCsv refl) reads.short reads.read;
-      contradicts = is_right.right.contradicts;
-      impossible = is_right.infeasible.0 refl;
-    };
+    spelled = rows-spelled old new s p m.last read (at SettingsToml refl) (at ClassesCsv refl) (at EditedCsv refl) (same-classes (standing_labels seats) p lines m are) spells;
+    written = writes-cut m.last set is_right.right reads (is_right.infeasible.0 refl) ((EditedCsv, source_text s m.last) ∷ (TrailCsv, trail) ∷ []) old new at before after (sends-last front (screen_text m.last (answer.Infeasible set)) before after sent);
   }
 
-  module _ (done : Status) (texts : List (FileName × List ℕ)) (printed : List ℕ) (x : IsPreparedEdit seats s m done texts printed) (before after : Option (List ℕ)) (old now new : Option Files) (kept : Told old now SameFiles)
-      (ok : IfSome old (λ files. edit_input_in None files ≡ Ok ((s, p), lines))) (given : IfSome old (λ files. input_of seats Edit None files ≡ Ok (to_edit s m)))
-      (stands : Told now new (λ y z. Delivered texts printed {T = Unit {0}} (Ok tt) y z before after)) where
-    both : (held : Option Files) → IfSome held (λ files. edit_input_in None files ≡ Ok ((s, p), lines)) → IfSome held (λ files. input_of seats Edit None files ≡ Ok (to_edit s m)) → IfSome held (λ files. (problem_in SourceCsv None files ≡ Ok (s, p)) × (input_of seats Edit None files ≡ Ok (to_edit s m)))
-    both None o g = tt
-    both (Some files) o g = (problem-read files s p lines o, g)
+  module _ (done : Status) (texts : List (FileName × List ℕ)) (printed : List ℕ) (x : IsPreparedEdit seats s m done texts printed) where
+    edits-keep : (held : Option Files) → IfSome held (λ files. edit_input_in None files ≡ Ok ((s, p), lines)) → IfSome held (λ files. input_of seats Edit None files ≡ Ok (to_edit s m))
+        → IfSome held (λ old. (new : Files) (before after : Option (List ℕ)) → WrittenAll texts old new → Told before after (Sends printed) → Promises seats Edit done before after old new)
+    edits-keep None read given = tt
+    edits-keep (Some old) read given = λ new before after written sent.
+        subst (λ end. Promises seats Edit end before after old new) (sym x.ends)
+        (edit-promises x.answer x.right x.reads_back x.spells (trail_text x.events) old new (problem-read old s p lines read) given
+        (stands-at (seats_after x.events seats) ((EditedCsv, source_text s m.last) ∷ (TrailCsv, trail_text x.events) ∷ answer_files m.last x.answer) old new (subst (λ t. WrittenAll t old new) x.written written))
+        before after (rebalances_text x.events) (subst (λ t. Told before after (Sends t)) x.printed sent))
 
-    pub edit-balanced-told : done ≡ Balanced → Told old new (Headline seats Edit (WritesLeast before after))
-    edit-balanced-told e =
-        told_then (λ (y z : Files). SameFiles y z × ((problem_in SourceCsv None y ≡ Ok (s, p)) × (input_of seats Edit None y ≡ Ok (to_edit s m)))) (λ y z. Delivered texts printed {T = Unit {0}} (Ok tt) y z before after) (Headline seats Edit (WritesLeast before after))
-        (λ w y z read d. edit-balanced x.answer x.right x.reads_back x.spells (sym x.ends ∙ e) (trail_text x.events) w y z read.0 read.1.0 read.1.1
-        (stands-at (seats_after x.events seats) ((EditedCsv, source_text s m.last) ∷ (TrailCsv, trail_text x.events) ∷ answer_files m.last x.answer) y z (subst (λ t. WrittenAll t y z) x.written d.0)) before after (rebalances_text x.events) (subst (λ t. Told before after (Sends t)) x.printed d.1))
-        old now new (told_with SameFiles (λ (files : Files). (problem_in SourceCsv None files ≡ Ok (s, p)) × (input_of seats Edit None files ≡ Ok (to_edit s m))) old now kept (both old ok given)) stands
-
-    pub edit-infeasible-told : done ≡ Infeasible → Told old new (Headline seats Edit (WritesCut before after))
-    edit-infeasible-told e =
-        told_then (λ (y z : Files). SameFiles y z × ((problem_in SourceCsv None y ≡ Ok (s, p)) × (input_of seats Edit None y ≡ Ok (to_edit s m)))) (λ y z. Delivered texts printed {T = Unit {0}} (Ok tt) y z before after) (Headline seats Edit (WritesCut before after))
-        (λ w y z read d. edit-infeasible x.answer x.right x.reads_back x.spells (sym x.ends ∙ e) (trail_text x.events) w y z read.0 read.1.0 read.1.1
-        (stands-at (seats_after x.events seats) ((EditedCsv, source_text s m.last) ∷ (TrailCsv, trail_text x.events) ∷ answer_files m.last x.answer) y z (subst (λ t. WrittenAll t y z) x.written d.0)) before after (rebalances_text x.events) (subst (λ t. Told before after (Sends t)) x.printed d.1))
-        old now new (told_with SameFiles (λ (files : Files). (problem_in SourceCsv None files ≡ Ok (s, p)) × (input_of seats Edit None files ≡ Ok (to_edit s m))) old now kept (both old ok given)) stands
+-- a run of edits is ready
+pub edits-ready : (seats : List SeatFacts) (s : SettingsFacts) (p : ProblemFacts) (lines : List EditLine) (done : Status) (texts : List (FileName × List ℕ)) (printed : List ℕ) → PreparesEdit seats s p lines done texts printed
+    → (held : Option Files) → IfSome held (λ files. edit_input_in None files ≡ Ok ((s, p), lines)) → IsReady seats Edit held done texts printed
+edits-ready seats s p lines done texts printed x held read =
+    let given = edits-given seats s p lines held x.moments read x.are in
+    record {
+      input = to_edit s x.moments;
+      given = given;
+      gives = gives-edits seats s x.moments done texts printed x.is;
+      ends = answer-ends x.is.answer done x.is.ends;
+      names = edit-names-within seats s x.moments done texts printed x.is (map (λ (f : FileName × List ℕ). f.0) texts) refl;
+      keeps = edits-keep seats s p lines x.moments x.are done texts printed x.is held read given;
+    }

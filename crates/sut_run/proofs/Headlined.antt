@@ -1,11 +1,12 @@
 -- What the written files say by themselves.
-use Rattle.std.proofs.Common.{◌≡◌, ◌≤◌, ◌∙◌, ℕ, Bool, false, List, [], ◌∷◌, ◌++◌, Option, Some, None, Result, Ok, IfSome, length, refl, sym, ap, subst}
-use Rattle.std.specs.Prelude.{◌↔◌, IsSomeAnd, IsTrue, if◌then◌else◌}
+use Rattle.std.proofs.Common.{◌≡◌, ◌≤◌, ◌∙◌, ℕ, ℤ, Bool, false, List, [], ◌∷◌, ◌++◌, Option, Some, None, Result, Ok, IfSome, length, map, refl, sym, ap, subst}
+use Rattle.std.proofs.lemmas.List.Elements.{All-nil, All-cons}
+use Rattle.std.specs.Prelude.{◌↔◌, All, IsSomeAnd, IsTrue, if◌then◌else◌}
 use Rattle.sut_outside.specs.declared.names.FileName.{FileName}
 use Rattle.sut_outside.specs.declared.names.FileName.TheVariants.{SettingsToml, ClassesCsv, SourceCsv, BalancedCsv, SupplyCsv, UseCsv, AccountsCsv, CertificateCsv, ReportJson, ReviewCsv}
 use Rattle.sut_outside.specs.declared.shelf.TheConstants.{FILE_LIMIT}
-use Rattle.sut_outside.specs.Files.{Files, SameFiles, Told}
-use Rattle.sut_outside.proofs.Told.{told_as, told_then, told_with}
+use Rattle.sut_outside.specs.Files.{Files, Told}
+use Rattle.sut_outside.proofs.Told.{told_as}
 use Rattle.sut_outside.specs.Deliveries.{WrittenAll, after_writes, same_name, with_file}
 use Rattle.sut_outside.specs.Entry.{bytes_or}
 use Rattle.sut_records.specs.FirstFault.{and_then, fault_as}
@@ -16,7 +17,9 @@ use Rattle.sut_source.specs.SourceFile.{source_of}
 use Rattle.sut_tables.specs.ProblemFacts.{ProblemFacts}
 use Rattle.sut_tables.specs.Costs.{IsImpossible}
 use Rattle.sut_tables.proofs.OneGdp.{production-income, expenditure-income}
-use Rattle.sut_cert.specs.Right.{IsRight, is_infeasible}
+use Rattle.sut_measures.specs.declared.accounts.Account.{Account}
+use Rattle.sut_tables.specs.TableFacts.{TableFacts}
+use Rattle.sut_cert.specs.Right.{IsRight, IsRightCut, IsRightTable, is_infeasible}
 use Rattle.sut_cert.specs.declared.answers.Answer.{Answer}
 use Rattle.sut_cert.specs.declared.answers.Answer.TheVariants as answer
 use Rattle.sut_cert.specs.declared.certificates.Certificate.TheVariants as certificate
@@ -24,21 +27,26 @@ use Rattle.sut_cert.specs.CertificateFile.{certificate_of}
 use Rattle.sut_cert.specs.CertificateText.{certificate_text}
 use Rattle.sut_readback.specs.BalancedFile.{balanced_of}
 use Rattle.sut_readback.specs.BalancedText.{balanced_text}
+use Rattle.sut_write.specs.Supply.{supply_text}
+use Rattle.sut_write.specs.Use.{use_text}
+use Rattle.sut_write.specs.Accounts.{accounts_text}
+use Rattle.sut_write.specs.Reports.{report_text}
 use Rattle.sut_write.specs.Screen.{screen_text}
 use Rattle.sut_input.specs.Inputs.{problem_in}
 use Rattle.sut_input.specs.declared.faults.InputFault.{InputFault}
 use Rattle.sut_input.specs.declared.faults.InputFault.TheVariants as fault
 use Rattle.sut_status.specs.declared.statuses.Status.{Status}
-use Rattle.sut_status.specs.declared.statuses.Status.TheVariants.{Balanced, Infeasible}
 use Rattle.sut_run.specs.declared.commands.Command.TheVariants.{Balance}
-use Rattle.sut_run.specs.Inputs.{for_balance, refused}
+use Rattle.sut_run.specs.Inputs.{for_balance, refused, to_balance}
 use Rattle.sut_review.specs.Seats.{SeatFacts}
 use Rattle.sut_review.specs.ReviewText.{review_text}
 use Rattle.sut_editing.specs.Shown.{seats_shown}
-use Rattle.sut_run.specs.Deliveries.{ReadsBack, answer_files, review_files, status_of}
+use Rattle.sut_run.specs.Deliveries.{ReadsBack, SpellsCertificate, answer_files, review_files, status_of}
 use Rattle.sut_run.specs.Prepared.{IsPrepared}
-use Rattle.sut_run.specs.Headlines.{Headline, SendsLast, TellsAnswer, WritesCut, WritesLeast}
-use Rattle.sut_run.specs.Steps.{Delivered, Sends}
+use Rattle.sut_run.specs.Headlines.{SendsLast, TellsAnswer, WritesCut, WritesLeast}
+use Rattle.sut_run.specs.Ready.{IsReady, Promises}
+use Rattle.sut_run.specs.Steps.{Sends}
+use Rattle.sut_run.proofs.Delivered.{answer-ends, given-told, gives-answer, prepared-names}
 
 pub spelled : {A F : Type 0} (held : Option (List ℕ)) (text : List ℕ) (read : List ℕ → Result A F) (value : A) → held ≡ Some text → length text ≤ FILE_LIMIT → read text ≡ Ok value
     → IsSomeAnd held (λ bytes. (length bytes ≤ FILE_LIMIT) × (read bytes ≡ Ok value))
@@ -83,18 +91,33 @@ stands-at seats texts now new written name e = written name ∙ after-append tex
 pub sends-last : (front lines : List ℕ) (before after : Option (List ℕ)) → Told before after (Sends (front ++ lines)) → Told before after (SendsLast lines)
 sends-last front lines before after sent = told_as (Sends (front ++ lines)) (SendsLast lines) (λ x y e. (front, e)) before after sent
 
+two : (P : FileName × List ℕ → Type 0) (x y : FileName × List ℕ) → P x → P y → All P (x ∷ y ∷ [])
+two P x y first second = All-cons P x (y ∷ []) first (All-cons P y [] second (All-nil P))
+
+six : (P : FileName × List ℕ → Type 0) (u v w x y z : FileName × List ℕ) → P u → P v → P w → P x → P y → P z → All P (u ∷ v ∷ w ∷ x ∷ y ∷ z ∷ [])
+six P u v w x y z pu pv pw px py pz =
+    All-cons P u (v ∷ w ∷ x ∷ y ∷ z ∷ []) pu (All-cons P v (w ∷ x ∷ y ∷ z ∷ []) pv (All-cons P w (x ∷ y ∷ z ∷ []) pw (All-cons P x (y ∷ z ∷ []) px (two P y z py pz))))
+
+-- a text stands under its name
+abbrev stands-in : Files → FileName × List ℕ → Type 0
+stands-in files text = files text.0 ≡ Some text.1
+
 -- the files of an answer stand under their names
 pub tells-answer : (p : ProblemFacts) (a : Answer) (front : List (FileName × List ℕ)) (now new : Files) → ((name : FileName) → same_name name ReviewCsv ≡ false → new name ≡ after_writes (front ++ answer_files p a) now name)
     → (before after : Option (List ℕ)) → Told before after (SendsLast (screen_text p a)) → TellsAnswer before after p a new
 tells-answer p (answer.Balanced t ps) front now new at before after lines = record {
-  texts = (stands BalancedCsv refl, stands SupplyCsv refl, stands UseCsv refl, stands AccountsCsv refl, stands CertificateCsv refl, stands ReportJson refl, tt);
+  texts =
+      six (stands-in new) (BalancedCsv, balanced_text p t) (SupplyCsv, supply_text p.classes t) (UseCsv, use_text p.classes t) (AccountsCsv, accounts_text p.classes t) (CertificateCsv, certificate_text p.classes (certificate.Potentials ps)) (ReportJson, report_text p (answer.Balanced t ps))
+      (stands BalancedCsv refl) (stands SupplyCsv refl) (stands UseCsv refl) (stands AccountsCsv refl) (stands CertificateCsv refl) (stands ReportJson refl);
   lines = lines;
 }
   where
     stands : (name : FileName) → same_name name ReviewCsv ≡ false → new name ≡ after_writes (answer_files p (answer.Balanced t ps)) (after_writes front now) name
     stands name other = at name other ∙ after-append front (answer_files p (answer.Balanced t ps)) now name
 tells-answer p (answer.Infeasible set) front now new at before after lines = record {
-  texts = (stands CertificateCsv refl, stands ReportJson refl, tt);
+  texts =
+      two (stands-in new) (CertificateCsv, certificate_text p.classes (certificate.Cut set)) (ReportJson, report_text p (answer.Infeasible set))
+      (stands CertificateCsv refl) (stands ReportJson refl);
   lines = lines;
 }
   where
@@ -103,62 +126,75 @@ tells-answer p (answer.Infeasible set) front now new at before after lines = rec
 
 -- ---- the headline
 
-headline-balanced : (seats : List SeatFacts) (s : SettingsFacts) (p : ProblemFacts) (a : Answer) → IsRight p a → ReadsBack p a → status_of a ≡ Balanced → (old now new : Files) → SameFiles old now → problem_in SourceCsv None old ≡ Ok (s, p)
-    → ((name : FileName) → same_name name ReviewCsv ≡ false → new name ≡ after_writes (answer_files p a) now name) → (before after : Option (List ℕ)) → Told before after (Sends (screen_text p a)) → Headline seats Balance (WritesLeast before after) old new
-headline-balanced seats s p (answer.Infeasible set) is_right reads ends old now new same read at before after sent = absurd cc
-headline-balanced seats s p (answer.Balanced t ps) is_right reads ends old now new same read at before after sent = record {
+-- what is written of a least table
+pub writes-least : (p : ProblemFacts) (t : TableFacts) (ps : List (Account × ℤ)) → IsRightTable p t ps → ReadsBack p (answer.Balanced t ps) → (front : List (FileName × List ℕ)) (old new : Files)
+    → ((name : FileName) → same_name name ReviewCsv ≡ false → new name ≡ after_writes (front ++ answer_files p (answer.Balanced t ps)) old name)
+    → (before after : Option (List ℕ)) → Told before after (SendsLast (screen_text p (answer.Balanced t ps))) → WritesLeast before after p new
+writes-least p t ps is_right reads front old new at before after lines = record {
+  table = t;
+  shown_by = ps;
+  told = tells-answer p (answer.Balanced t ps) front old new at before after lines;
+  table_spelled = spelled (new BalancedCsv) (balanced_text p t) (balanced_of p) t (stands BalancedCsv refl) reads.0.short reads.0.read;
+  certificate_spelled = spelled (new CertificateCsv) (certificate_text p.classes (certificate.Potentials ps)) (certificate_of p) (certificate.Potentials ps) (stands CertificateCsv refl) reads.1.short reads.1.read;
+  least = is_right.least;
+  one_gdp = record {
+    by_income = sym (production-income t is_right.least.admissible.identities);
+    by_expenditure = expenditure-income t is_right.least.admissible.identities ∙ sym (production-income t is_right.least.admissible.identities);
+  };
+  shown = is_right.shown;
+}
+  where
+    stands : (name : FileName) → same_name name ReviewCsv ≡ false → new name ≡ after_writes (answer_files p (answer.Balanced t ps)) (after_writes front old) name
+    stands name other = at name other ∙ after-append front (answer_files p (answer.Balanced t ps)) old name
+
+-- what is written of a set that contradicts
+pub writes-cut : (p : ProblemFacts) (set : List Account) → IsRightCut p set → SpellsCertificate p (certificate.Cut set) → IsImpossible p → (front : List (FileName × List ℕ)) (old new : Files)
+    → ((name : FileName) → same_name name ReviewCsv ≡ false → new name ≡ after_writes (front ++ answer_files p (answer.Infeasible set)) old name)
+    → (before after : Option (List ℕ)) → Told before after (SendsLast (screen_text p (answer.Infeasible set))) → WritesCut before after p new
+writes-cut p set is_right reads none front old new at before after lines = record {
+  set = set;
+  told = tells-answer p (answer.Infeasible set) front old new at before after lines;
+  spelled = spelled (new CertificateCsv) (certificate_text p.classes (certificate.Cut set)) (certificate_of p) (certificate.Cut set) (at CertificateCsv refl ∙ after-append front (answer_files p (answer.Infeasible set)) old CertificateCsv) reads.short reads.read;
+  contradicts = is_right.contradicts;
+  impossible = none;
+}
+
+-- what the files of an answer promise
+answer-promises : (seats : List SeatFacts) (s : SettingsFacts) (p : ProblemFacts) (a : Answer) → IsRight p a → ReadsBack p a → IsTrue (is_infeasible a) ↔ IsImpossible p → (old new : Files) → problem_in SourceCsv None old ≡ Ok (s, p)
+    → ((name : FileName) → same_name name ReviewCsv ≡ false → new name ≡ after_writes (answer_files p a) old name) → (before after : Option (List ℕ)) → Told before after (Sends (screen_text p a))
+    → Promises seats Balance (status_of a) before after old new
+answer-promises seats s p (answer.Balanced t ps) is_right reads none old new read at before after sent = record {
   problem = p;
   settings = s;
   given = given s p old read;
-  spelled = same-problem old new (at SettingsToml refl ∙ same SettingsToml) (at ClassesCsv refl ∙ same ClassesCsv) (at SourceCsv refl ∙ same SourceCsv) ∙ read;
-  written = record {
-    table = t;
-    shown_by = ps;
-    told = tells-answer p (answer.Balanced t ps) [] now new at before after (sends-last [] (screen_text p (answer.Balanced t ps)) before after sent);
-    table_spelled = spelled (new BalancedCsv) (balanced_text p t) (balanced_of p) t (at BalancedCsv refl) reads.0.short reads.0.read;
-    certificate_spelled = spelled (new CertificateCsv) (certificate_text p.classes (certificate.Potentials ps)) (certificate_of p) (certificate.Potentials ps) (at CertificateCsv refl) reads.1.short reads.1.read;
-    least = is_right.least;
-    one_gdp = record {
-      by_income = sym (production-income t is_right.least.admissible.identities);
-      by_expenditure = expenditure-income t is_right.least.admissible.identities ∙ sym (production-income t is_right.least.admissible.identities);
-    };
-    shown = is_right.shown;
-  };
+  spelled = same-problem old new (at SettingsToml refl) (at ClassesCsv refl) (at SourceCsv refl) ∙ read;
+  written = writes-least p t ps is_right reads [] old new at before after (sends-last [] (screen_text p (answer.Balanced t ps)) before after sent);
 }
-
-headline-infeasible : (seats : List SeatFacts) (s : SettingsFacts) (p : ProblemFacts) (a : Answer) → IsRight p a → ReadsBack p a → IsTrue (is_infeasible a) ↔ IsImpossible p → status_of a ≡ Infeasible → (old now new : Files) → SameFiles old now → problem_in SourceCsv None old ≡ Ok (s, p)
-    → ((name : FileName) → same_name name ReviewCsv ≡ false → new name ≡ after_writes (answer_files p a) now name) → (before after : Option (List ℕ)) → Told before after (Sends (screen_text p a)) → Headline seats Balance (WritesCut before after) old new
-headline-infeasible seats s p (answer.Balanced t ps) is_right reads none ends old now new same read at before after sent = absurd cc
-headline-infeasible seats s p (answer.Infeasible set) is_right reads none ends old now new same read at before after sent = record {
+answer-promises seats s p (answer.Infeasible set) is_right reads none old new read at before after sent = λ checked. record {
   problem = p;
   settings = s;
   given = given s p old read;
-  spelled = same-problem old new (at SettingsToml refl ∙ same SettingsToml) (at ClassesCsv refl ∙ same ClassesCsv) (at SourceCsv refl ∙ same SourceCsv) ∙ read;
-  written = record {
-    set = set;
-    told = tells-answer p (answer.Infeasible set) [] now new at before after (sends-last [] (screen_text p (answer.Infeasible set)) before after sent);
-    spelled = spelled (new CertificateCsv) (certificate_text p.classes (certificate.Cut set)) (certificate_of p) (certificate.Cut set) (at CertificateCsv refl) reads.short reads.read;
-    contradicts = is_right.contradicts;
-    impossible = none.0 refl;
-  };
+  spelled = same-problem old new (at SettingsToml refl) (at ClassesCsv refl) (at SourceCsv refl) ∙ read;
+  written = writes-cut p set is_right reads (none.0 refl) [] old new at before after (sends-last [] (screen_text p (answer.Infeasible set)) before after sent);
 }
 
--- the same of a delivery where the files are told
+answer-keeps : (seats : List SeatFacts) (s : SettingsFacts) (p : ProblemFacts) (done : Status) (texts : List (FileName × List ℕ)) (lines : List ℕ) → IsPrepared seats p done texts lines
+    → (held : Option Files) → IfSome held (λ files. problem_in SourceCsv None files ≡ Ok (s, p))
+    → IfSome held (λ old. (new : Files) (before after : Option (List ℕ)) → WrittenAll texts old new → Told before after (Sends lines) → Promises seats Balance done before after old new)
+answer-keeps seats s p done texts lines x None read = tt
+answer-keeps seats s p done texts lines x (Some old) read = λ new before after written sent.
+    subst (λ end. Promises seats Balance end before after old new) (sym x.ends)
+    (answer-promises seats s p x.answer x.right x.reads_back x.impossible old new read
+    (stands-at (seats_shown p x.answer seats) (answer_files p x.answer) old new (subst (λ t. WrittenAll t old new) x.written written)) before after (subst (λ t. Told before after (Sends t)) x.printed sent))
 
-pub balanced-told : (seats : List SeatFacts) (s : SettingsFacts) (p : ProblemFacts) (done : Status) (texts : List (FileName × List ℕ)) (lines : List ℕ) → IsPrepared seats p done texts lines → done ≡ Balanced
-    → (before after : Option (List ℕ)) (old now new : Option Files) → Told old now SameFiles → IfSome old (λ files. problem_in SourceCsv None files ≡ Ok (s, p))
-    → Told now new (λ x y. Delivered texts lines {T = Unit {0}} (Ok tt) x y before after) → Told old new (Headline seats Balance (WritesLeast before after))
-balanced-told seats s p done texts lines made e before after old now new kept ok stands =
-    told_then (λ (x y : Files). SameFiles x y × (problem_in SourceCsv None x ≡ Ok (s, p))) (λ x y. Delivered texts lines {T = Unit {0}} (Ok tt) x y before after) (Headline seats Balance (WritesLeast before after))
-    (λ x y z read w. headline-balanced seats s p made.answer made.right made.reads_back (sym made.ends ∙ e) x y z read.0 read.1
-    (stands-at (seats_shown p made.answer seats) (answer_files p made.answer) y z (subst (λ t. WrittenAll t y z) made.written w.0)) before after (subst (λ t. Told before after (Sends t)) made.printed w.1))
-    old now new (told_with SameFiles (λ (files : Files). problem_in SourceCsv None files ≡ Ok (s, p)) old now kept ok) stands
-
-pub infeasible-told : (seats : List SeatFacts) (s : SettingsFacts) (p : ProblemFacts) (done : Status) (texts : List (FileName × List ℕ)) (lines : List ℕ) → IsPrepared seats p done texts lines → done ≡ Infeasible
-    → (before after : Option (List ℕ)) (old now new : Option Files) → Told old now SameFiles → IfSome old (λ files. problem_in SourceCsv None files ≡ Ok (s, p))
-    → Told now new (λ x y. Delivered texts lines {T = Unit {0}} (Ok tt) x y before after) → Told old new (Headline seats Balance (WritesCut before after))
-infeasible-told seats s p done texts lines made e before after old now new kept ok stands =
-    told_then (λ (x y : Files). SameFiles x y × (problem_in SourceCsv None x ≡ Ok (s, p))) (λ x y. Delivered texts lines {T = Unit {0}} (Ok tt) x y before after) (Headline seats Balance (WritesCut before after))
-    (λ x y z read w. headline-infeasible seats s p made.answer made.right made.reads_back made.impossible (sym made.ends ∙ e) x y z read.0 read.1
-    (stands-at (seats_shown p made.answer seats) (answer_files p made.answer) y z (subst (λ t. WrittenAll t y z) made.written w.0)) before after (subst (λ t. Told before after (Sends t)) made.printed w.1))
-    old now new (told_with SameFiles (λ (files : Files). problem_in SourceCsv None files ≡ Ok (s, p)) old now kept ok) stands
+-- an answer to the problem of the source is ready
+pub answer-ready : (seats : List SeatFacts) (s : SettingsFacts) (p : ProblemFacts) (done : Status) (texts : List (FileName × List ℕ)) (lines : List ℕ) → IsPrepared seats p done texts lines
+    → (held : Option Files) → IfSome held (λ files. problem_in SourceCsv None files ≡ Ok (s, p)) → IsReady seats Balance held done texts lines
+answer-ready seats s p done texts lines x held read = record {
+  input = to_balance s p;
+  given = given-told seats s p held read;
+  gives = gives-answer seats p done texts lines x;
+  ends = answer-ends x.answer done x.ends;
+  names = prepared-names seats p done texts lines x (map (λ (f : FileName × List ℕ). f.0) texts) refl;
+  keeps = answer-keeps seats s p done texts lines x held read;
+}

@@ -11,3 +11,4 @@ pub mod ClassesLength
 pub mod Migrated
 pub mod Complete
 pub mod Named
+pub mod Commanded

@@ -17,7 +17,8 @@ use Rattle.sut_run.specs.declared.commands.Command.{Command}
 use Rattle.sut_run.specs.Inputs.{edits_refused, refused}
 use Rattle.sut_run.specs.Steps.{IsShelfFault, PutsLines, Sends, StopsDelivery, StopsWriting}
 use Rattle.sut_run.specs.Ends.{AreLines, IsDone, Prints, PrintsAll, PrintsPart}
-use Rattle.sut_run.proofs.Delivered.{IsRefusal, sent-same}
+use Rattle.sut_run.specs.Ready.{IsRefusal}
+use Rattle.sut_run.proofs.Delivered.{sent-same}
 
 -- ---- a delivery
 

@@ -1,11 +1,11 @@
 -- Words of a command.
-use Rattle.std.proofs.Common.{◌≡◌, ◌≤◌, ◌<◌, ℕ, Bool, true, false, List, [], ◌∷◌, Option, None, Some, length, get_or, sym, ap, refl, arith}
+use Rattle.std.proofs.Common.{◌≡◌, ◌≤◌, ◌<◌, ℕ, Bool, true, false, List, [], ◌∷◌, Option, None, Some, length, get_or, sym, ap, refl, subst, arith}
 use Rattle.std.specs.Prelude.{codes, if◌then◌else◌}
 use Rattle.std.specs.Str.{bytes_eq}
 use Rattle.sut_generate.specs.Generator.{is_size}
 use Rattle.sut_run.specs.declared.commands.Command.{Command}
 use Rattle.sut_run.specs.declared.commands.Command.TheVariants.{Balance, Edit, Migrate, Generate}
-use Rattle.sut_run.specs.Commands.{command_of, generate_of, natural}
+use Rattle.sut_run.specs.Commands.{IsSized, command_of, generate_of, natural}
 
 -- a list of one
 pub one_item : {X : Type 0} (xs : List X) (x : X) → 1 ≤ length xs → length xs < 2 → x ≡ get_or xs 0 x → xs ≡ x ∷ []
@@ -49,10 +49,19 @@ sized-sized true (Some x) (Some y) None = refl
 sized-sized true (Some x) None z = refl
 sized-sized true None y z = refl
 
-pub words-sized : (words : List (List ℕ)) → has_size (command_of words) ≡ true
+words-sized : (words : List (List ℕ)) → has_size (command_of words) ≡ true
 words-sized [] = refl
 words-sized (a ∷ []) = named-sized (bytes_eq a (codes "balance")) (bytes_eq a (codes "edit")) (bytes_eq a (codes "migrate"))
 words-sized (a ∷ b ∷ []) = refl
 words-sized (a ∷ b ∷ c ∷ []) = refl
 words-sized (a ∷ b ∷ c ∷ d ∷ []) = sized-sized (bytes_eq a (codes "generate")) (natural b) (natural c) (natural d)
 words-sized (a ∷ b ∷ c ∷ d ∷ e ∷ rest) = refl
+
+sized : (c : Command) → has_size (Some c) ≡ true → IsSized c
+sized Balance h = tt
+sized Edit h = tt
+sized Migrate h = tt
+sized (Generate seed products industries) h = h
+
+pub command-sized : (words : List (List ℕ)) (c : Command) → command_of words ≡ Some c → IsSized c
+command-sized words c e = sized c (subst (λ o. has_size o ≡ true) e (words-sized words))

@@ -1,5 +1,5 @@
 -- The commands, their words, and the files that each reads and may write.
-use Rattle.std.specs.Prelude.{ℕ, ℤ, pos, int_lt, unsigned_abs, List, [], ◌∷◌, ◌++◌, Option, Some, None, Result, Ok, Err, codes, if◌then◌else◌}
+use Rattle.std.specs.Prelude.{◌≡◌, true, ⊤, ℕ, ℤ, pos, int_lt, unsigned_abs, List, [], ◌∷◌, ◌++◌, Option, Some, None, Result, Ok, Err, codes, if◌then◌else◌}
 use Rattle.std.specs.Str.{bytes_eq}
 use Rattle.sut_outside.specs.declared.names.FileName.{FileName}
 use Rattle.sut_outside.specs.declared.names.FileName.TheVariants.{ClassesCsv, SourceCsv, BalancedCsv, SupplyCsv, UseCsv, AccountsCsv, CertificateCsv, ReportJson, ReviewCsv, EditedCsv, TrailCsv, MadeSettingsToml, MadeClassesCsv, MadeSourceCsv, Classes2Csv}
@@ -46,6 +46,11 @@ abbrev pub command_of : List (List ℕ) → Option Command
 command_of (word ∷ []) = named word
 command_of (word ∷ seed ∷ products ∷ industries ∷ []) = sized word seed products industries
 command_of _ = None
+
+-- a year that is named is of a size that is made
+abbrev pub IsSized : Command → Type 0
+IsSized (Generate seed products industries) = is_size seed products industries ≡ true
+IsSized _ = ⊤
 
 -- the files that a command reads, in order
 abbrev pub read_names : Command → List FileName

@@ -7,6 +7,7 @@ use Rattle.sut_outside.specs.Sent.{AppendsPart}
 use Rattle.sut_status.specs.declared.statuses.Status.{Status}
 use Rattle.sut_status.specs.declared.statuses.Status.TheVariants.{Balanced, Generated, Migrated, Published, Ranged, Series, Shared, NoMemory, Usage, Infeasible, BadSettings, BadClasses, BadSource, BadEdits, BadTable, NotAdmissible, BadAsks, BadDismiss, TooManyPairs, BadYear, ReadFault, WriteFault, Missing, SinkFault, TooLong}
 use Rattle.sut_run.specs.declared.commands.Command.{Command}
+use Rattle.sut_run.specs.declared.commands.Command.TheVariants.{Balance, Edit, Migrate, Generate}
 use Rattle.sut_run.specs.Inputs.{Given, input_of}
 use Rattle.sut_review.specs.Seats.{SeatFacts}
 use Rattle.sut_run.specs.Deliveries.{Delivery, Gives}
@@ -23,6 +24,13 @@ IsDone Series = ⊤
 IsDone Shared = ⊤
 IsDone Infeasible = ⊤
 IsDone _ = ⊥
+
+-- an answer with which a run of the command may be done
+abbrev pub IsEndOf : Command → Status → Type 0
+IsEndOf Balance s = (s ≡ Balanced) ⊎ (s ≡ Infeasible)
+IsEndOf Edit s = (s ≡ Balanced) ⊎ (s ≡ Infeasible)
+IsEndOf Migrate s = s ≡ Migrated
+IsEndOf (Generate seed products industries) s = s ≡ Generated
 
 -- What an answer says of the input at entry. Want of memory: nothing. A failed read: where that read fails, nothing is
 -- refused before it. A failed write or put, or a run that was done: the input was accepted. Any other answer is the

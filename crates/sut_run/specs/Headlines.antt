@@ -66,7 +66,7 @@ pub record HasOneGdp (t : TableFacts) : Type 0 where
 
 -- these lines went out last
 abbrev pub SendsLast : List ℕ → List ℕ → List ℕ → Type 0
-SendsLast lines old new = (front : List ℕ) × (new ≡ old ++ front ++ lines)
+SendsLast lines old new = (front : List ℕ) × (new ≡ old ++ (front ++ lines))
 
 -- tables, accounts, certificate, report and the last printed lines are those of one answer
 pub record TellsAnswer (before after : Option (List ℕ)) (p : ProblemFacts) (a : Answer) (files : Files) : Type 0 where

@@ -6,3 +6,4 @@ pub mod Steps
 pub mod Ends
 pub mod Headlines
 pub mod Prepared
+pub mod Ready

@@ -1,35 +1,34 @@
 //! The command `edit`.
 
-ghost use Rattle.std.specs.Prelude.{◌≡◌, ◌≢◌, ◌++◌, ◌∷◌, All, Err, IfErr, IfOk, IfSome, OnOk, Some, Contains, map};
-ghost use Rattle.sut_outside.specs.Files.{Told};
-ghost use Rattle.sut_outside.specs.Causes.{NoneFailed, Rose};
+ghost use Rattle.std.specs.Prelude.{◌≡◌, ◌≤◌, ◌++◌, ◌∷◌, All, Err, IfErr, IfOk, IsErrAnd, OnOk, map};
+ghost use Rattle.sut_outside.specs.Files.{SameFiles, Told};
+ghost use Rattle.sut_outside.specs.Causes.{NoneFailed};
 ghost use Rattle.sut_cert.specs.Right.{IsRight};
 ghost use Rattle.sut_write.specs.Screen as screen;
 ghost use Rattle.sut_source.specs.SourceText.{HasGrade, source_text};
 ghost use Rattle.sut_edits.specs.EditRules.{AreEditsOf};
 ghost use Rattle.sut_review.specs.Seats.{new_seat};
 ghost use Rattle.sut_editing.specs.Moments.{IfRefused, moments_of, standing_labels};
-ghost use Rattle.sut_run.specs.Commands.{read_names, written_names};
 ghost use Rattle.sut_run.specs.Deliveries as deliveries;
 ghost use Rattle.sut_run.specs.Deliveries.{ReadsBack, SpellsSource, answer_files};
 ghost use Rattle.sut_run.specs.Inputs.{edit_stopped, edits_refused};
 ghost use Rattle.sut_run.specs.Outputs.{review_in, texts_in};
 ghost use Rattle.sut_run.specs.Prepared.{PreparesEdit};
-ghost use Rattle.sut_run.specs.Ends.{AnswersInput, AreLines, Prints, Stands};
-ghost use Rattle.sut_run.specs.Headlines.{Headline, WritesCut, WritesLeast};
-ghost use Rattle.sut_run.specs.Steps.{IfReadFault, IfWriteFault, IsShelfFault};
+ghost use Rattle.sut_run.specs.Ready.{IsReady, IsRefused};
+ghost use Rattle.sut_run.specs.Steps.{IsShelfFault};
 
-use crate::balancing::{Prepared, refused};
+use crate::balancing::refused;
 use crate::commands::Command;
 use crate::outputs::{make, push_text, status_of};
-use crate::writing::{Made, deliver};
+use crate::preparing::Prepared;
+use crate::writing::Made;
 use no_memory::NoMemory;
 use std::alloc::Global;
 use sut_cert::Answer;
 use sut_editing::{Edited, EditingFault, edit_rows};
 use sut_edits::EditLine;
 use sut_input::{EditInput, EditInputFault, read_edit_input};
-use sut_outside::{FileName, Shelf, Sink};
+use sut_outside::{FileName, Shelf};
 use sut_review::Reviewer;
 use sut_settings::Settings;
 use sut_status::Status;
@@ -162,41 +161,29 @@ fn edit_stopped(fault: EditingFault) -> Status
     }
 }
 
-/// Reads settings, classes, source and edits, takes the edits, writes the rows after them, the balanced tables and all that is
-/// written of the last answer, and prints a line for each rebalance before its lines.
-pub(crate) fn run_edit<F: Shelf, K: Sink>(
+/// Reads settings, classes, source and edits, takes the edits, and makes the rows after them, the balanced tables and all that
+/// is written of the last answer, and a line for each rebalance before its lines.
+pub(crate) fn prepare_edits<F: Shelf>(
     alloc: Global,
     shelf: &mut F,
-    out: &mut K,
     reviewers: Vec<Box<dyn Reviewer>>,
-) -> Status
+) -> Result<Prepared, Status>
     requires { All (λ b. marked b ≡ 0) reviewers.items }
-    ensures input { IfSome (F.files shelf.old) (λ files. AnswersInput (map (λ b. new_seat (name b) (rule b)) reviewers.items) Command.Edit files result) }
-    ensures stands { Told (F.files shelf.old) (F.files shelf.new) (Stands (map (λ b. new_seat (name b) (rule b)) reviewers.items) Command.Edit result (K.sent out.old) (K.sent out.new)) }
-    ensures read_fault { IfReadFault result (λ failed. Rose (F.faults shelf.old) (F.faults shelf.new) × (F.last_failed shelf.new ≡ Some failed) × Contains (read_names Command.Edit) failed) }
-    ensures write_fault { IfWriteFault result (λ failed. Rose (F.faults shelf.old) (F.faults shelf.new) × (F.last_failed shelf.new ≡ Some failed) × Contains (written_names Command.Edit) failed) }
-    ensures sink_fault { result ≡ Status.SinkFault → Rose (K.faults out.old) (K.faults out.new) }
-    ensures shelf_stays { ¬ IsShelfFault result → NoneFailed (F.faults shelf.old) (F.faults shelf.new) (F.last_failed shelf.old) (F.last_failed shelf.new) }
-    ensures sink_stays { result ≢ Status.SinkFault → K.faults out.new ≡ K.faults out.old }
-    ensures printed { Told (K.sent out.old) (K.sent out.new) (Prints (AreLines (map (λ b. new_seat (name b) (rule b)) reviewers.items) Command.Edit (F.files shelf.old)) result) }
-    ensures balanced { result ≡ Status.Balanced → Told (F.files shelf.old) (F.files shelf.new) (Headline (map (λ b. new_seat (name b) (rule b)) reviewers.items) Command.Edit (WritesLeast (K.sent out.old) (K.sent out.new))) }
-    ensures infeasible { result ≡ Status.Infeasible → Told (F.files shelf.old) (F.files shelf.new) (Headline (map (λ b. new_seat (name b) (rule b)) reviewers.items) Command.Edit (WritesCut (K.sent out.old) (K.sent out.new))) }
-    ensures migrated { (result ≡ Status.Migrated) → ⊥ }
-    ensures used { (result ≡ Status.Usage) → ⊥ }
+    ensures kept { Told (F.files shelf.old) (F.files shelf.new) SameFiles }
+    ensures ready { IfOk result (λ x. IsReady (map (λ b. new_seat (name b) (rule b)) reviewers.items) Command.Edit (F.files shelf.old) x.done (texts_in x.made.outputs.items) x.made.lines.items) }
+    ensures refused { IfErr result (λ s. IsRefused (map (λ b. new_seat (name b) (rule b)) reviewers.items) Command.Edit (F.files shelf.old) (F.faults shelf.old) (F.faults shelf.new) (F.last_failed shelf.new) s) }
+    ensures later { F.faults shelf.old ≤ F.faults shelf.new }
+    ensures stays { ¬ IsErrAnd result IsShelfFault → NoneFailed (F.faults shelf.old) (F.faults shelf.new) (F.last_failed shelf.old) (F.last_failed shelf.new) }
 {
     let given = match read_edit_input(alloc, shelf) {
         Ok(given) => given,
         Err(fault) => {
             drop(reviewers);
-            return edits_refused(fault);
+            return Err(edits_refused(fault));
         }
     };
-    let prepared = match prepare_given(alloc, given, reviewers) {
-        Ok(prepared) => prepared,
-        Err(fault) => return edit_stopped(fault),
-    };
-    match deliver(shelf, out, &prepared.made) {
-        Ok(()) => prepared.done,
-        Err(stopped) => stopped,
+    match prepare_given(alloc, given, reviewers) {
+        Ok(prepared) => Ok(prepared),
+        Err(fault) => Err(edit_stopped(fault)),
     }
 }

@@ -1,31 +1,29 @@
 //! The command `generate`.
 
-ghost use Rattle.std.specs.Prelude.{◌≡◌, ◌≢◌, true, IfOk, IfSome, IfErr, Ok, Some, Contains, List};
-ghost use Rattle.sut_outside.specs.Files.{Told};
-ghost use Rattle.sut_outside.specs.Causes.{NoneFailed, Rose};
+ghost use Rattle.std.specs.Prelude.{◌≡◌, true, IfErr, IfOk, List, Ok, Option};
+ghost use Rattle.sut_outside.specs.Files as outside;
 ghost use Rattle.sut_settings.specs.SettingsFile.{settings_of};
 ghost use Rattle.sut_classes.specs.ClassFile.{classes_of};
 ghost use Rattle.sut_generate.specs.MadeFiles.{AreMade};
 ghost use Rattle.sut_generate.specs.Generator.{is_size, made_classes, made_settings, made_source};
 ghost use Rattle.generated_laws.specs.MadeLists.{made_facts, made_lists};
 ghost use Rattle.sut_review.specs.Seats.{SeatFacts};
-ghost use Rattle.sut_run.specs.Commands.{read_names, written_names};
 ghost use Rattle.sut_run.specs.Deliveries.{IsMadeProblem, IsMadeYear, PrintsMade, made_files};
-ghost use Rattle.sut_run.specs.Ends.{AnswersInput, AreLines, Prints, Stands};
 ghost use Rattle.sut_run.specs.Outputs.{texts_in};
-ghost use Rattle.sut_run.specs.Steps.{IfReadFault, IfWriteFault, IsShelfFault};
+ghost use Rattle.sut_run.specs.Ready.{IsReady};
 
 use crate::balancing::answer_to;
 use crate::commands::Command;
 use crate::outputs::push_text;
-use crate::writing::{Made, Output, deliver};
+use crate::preparing::Prepared;
+use crate::writing::{Made, Output};
 use generated_laws::{classes_read, settings_read, source_read, year_read};
 use no_memory::NoMemory;
 use std::alloc::Global;
 use sut_cert::Answer;
 use sut_classes::{ClassFault, Classes, read_classes};
 use sut_generate::{Files, GenerateFault, generate};
-use sut_outside::{FileName, Shelf, Sink};
+use sut_outside::FileName;
 use sut_settings::{Settings, SettingsFault, read_settings};
 use sut_source::{RowFault, read_source};
 use sut_status::Status;
@@ -232,36 +230,23 @@ fn prepare_made(alloc: Global, seed: u32, products: u32, industries: u32) -> Res
     }
 }
 
-/// Writes the files of a made year, balances them in memory, and prints the number of rows and the least cost. A year of zeros
-/// is admissible, so there is always an answer.
-pub(crate) fn run_generate<F: Shelf, K: Sink>(
+/// Makes the files of a year, balances them in memory, and makes the lines with the number of rows and the least cost. A year of
+/// zeros is admissible, so there is always an answer.
+pub(crate) fn prepare_year(
     alloc: Global,
     seed: u32,
     products: u32,
     industries: u32,
-    shelf: &mut F,
-    out: &mut K,
-) -> Status
+) -> Result<Prepared, Status>
     requires { is_size seed products industries ≡ true }
-    ensures input { (seats : List SeatFacts) → IfSome (F.files shelf.old) (λ files. AnswersInput seats (Command.Generate seed products industries) files result) }
-    ensures stands { (seats : List SeatFacts) → Told (F.files shelf.old) (F.files shelf.new) (Stands seats (Command.Generate seed products industries) result (K.sent out.old) (K.sent out.new)) }
-    ensures read_fault { IfReadFault result (λ failed. Rose (F.faults shelf.old) (F.faults shelf.new) × (F.last_failed shelf.new ≡ Some failed) × Contains (read_names (Command.Generate seed products industries)) failed) }
-    ensures write_fault { IfWriteFault result (λ failed. Rose (F.faults shelf.old) (F.faults shelf.new) × (F.last_failed shelf.new ≡ Some failed) × Contains (written_names (Command.Generate seed products industries)) failed) }
-    ensures sink_fault { result ≡ Status.SinkFault → Rose (K.faults out.old) (K.faults out.new) }
-    ensures shelf_stays { ¬ IsShelfFault result → NoneFailed (F.faults shelf.old) (F.faults shelf.new) (F.last_failed shelf.old) (F.last_failed shelf.new) }
-    ensures sink_stays { result ≢ Status.SinkFault → K.faults out.new ≡ K.faults out.old }
-    ensures printed { (seats : List SeatFacts) → Told (K.sent out.old) (K.sent out.new) (Prints (AreLines seats (Command.Generate seed products industries) (F.files shelf.old)) result) }
-    ensures balanced { (result ≡ Status.Balanced) → ⊥ }
-    ensures infeasible { (result ≡ Status.Infeasible) → ⊥ }
-    ensures migrated { (result ≡ Status.Migrated) → ⊥ }
-    ensures used { (result ≡ Status.Usage) → ⊥ }
+    ensures ready { IfOk result (λ x. (seats : List SeatFacts) (held : Option outside.Files) → IsReady seats (Command.Generate seed products industries) held x.done (texts_in x.made.outputs.items) x.made.lines.items) }
+    ensures memory { IfErr result (λ s. s ≡ Status.NoMemory) }
 {
-    let made = match prepare_made(alloc, seed, products, industries) {
-        Ok(made) => made,
-        Err(_) => return Status::NoMemory,
-    };
-    match deliver(shelf, out, &made) {
-        Ok(()) => Status::Generated,
-        Err(stopped) => stopped,
+    match prepare_made(alloc, seed, products, industries) {
+        Ok(made) => Ok(Prepared {
+            done: Status::Generated,
+            made,
+        }),
+        Err(_) => Err(Status::NoMemory),
     }
 }

@@ -7,6 +7,7 @@ mod editing;
 mod generating;
 mod migrating;
 mod outputs;
+mod preparing;
 mod reviewing;
 pub mod runs;
 mod writing;

@@ -1,25 +1,24 @@
 //! The command `migrate`.
 
-ghost use Rattle.std.specs.Prelude.{◌≡◌, ◌≢◌, Ok, IfOk, IfSome, OnOk, Contains, List};
-ghost use Rattle.sut_outside.specs.Files.{Told};
-ghost use Rattle.sut_outside.specs.Causes.{NoneFailed, Rose};
+ghost use Rattle.std.specs.Prelude.{◌≡◌, ◌≤◌, IfErr, IfOk, IsErrAnd, OnOk, List};
+ghost use Rattle.sut_outside.specs.Files.{SameFiles, Told};
+ghost use Rattle.sut_outside.specs.Causes.{NoneFailed};
 ghost use Rattle.sut_review.specs.Seats.{SeatFacts};
-ghost use Rattle.sut_run.specs.Commands.{read_names, written_names};
 ghost use Rattle.sut_run.specs.Outputs.{texts_in};
 ghost use Rattle.sut_run.specs.Deliveries.{SpellsClasses, code_count, migrated_text, migration};
-ghost use Rattle.sut_run.specs.Ends.{AnswersInput, AreLines, Prints, Stands};
-ghost use Rattle.sut_run.specs.Headlines.{WritesClasses};
-ghost use Rattle.sut_run.specs.Steps.{IfReadFault, IfWriteFault, IsShelfFault};
+ghost use Rattle.sut_run.specs.Ready.{IsReady, IsRefused};
+ghost use Rattle.sut_run.specs.Steps.{IsShelfFault};
 
 use crate::balancing::refused;
 use crate::commands::Command;
 use crate::outputs::push_text;
-use crate::writing::{Made, deliver};
+use crate::preparing::Prepared;
+use crate::writing::Made;
 use no_memory::NoMemory;
 use std::alloc::Global;
 use sut_classes::{Axis, Classes, print_classes};
 use sut_input::read_classes_file;
-use sut_outside::{FileName, Shelf, Sink};
+use sut_outside::{FileName, Shelf};
 use sut_status::Status;
 use sut_text::fields::{Field, put_words};
 use sut_text::{put_byte, put_bytes};
@@ -60,33 +59,28 @@ fn prepare_classes(alloc: Global, classes: &Classes) -> Result<Made, NoMemory>
     Ok(Made { outputs, lines })
 }
 
-/// Reads the classes, writes them in format 2, and prints how many codes there are.
-pub(crate) fn run_migrate<F: Shelf, K: Sink>(alloc: Global, shelf: &mut F, out: &mut K) -> Status
-    ensures input { (seats : List SeatFacts) → IfSome (F.files shelf.old) (λ files. AnswersInput seats Command.Migrate files result) }
-    ensures stands { (seats : List SeatFacts) → Told (F.files shelf.old) (F.files shelf.new) (Stands seats Command.Migrate result (K.sent out.old) (K.sent out.new)) }
-    ensures read_fault { IfReadFault result (λ failed. Rose (F.faults shelf.old) (F.faults shelf.new) × (F.last_failed shelf.new ≡ Some failed) × Contains (read_names Command.Migrate) failed) }
-    ensures write_fault { IfWriteFault result (λ failed. Rose (F.faults shelf.old) (F.faults shelf.new) × (F.last_failed shelf.new ≡ Some failed) × Contains (written_names Command.Migrate) failed) }
-    ensures sink_fault { result ≡ Status.SinkFault → Rose (K.faults out.old) (K.faults out.new) }
-    ensures shelf_stays { ¬ IsShelfFault result → NoneFailed (F.faults shelf.old) (F.faults shelf.new) (F.last_failed shelf.old) (F.last_failed shelf.new) }
-    ensures sink_stays { result ≢ Status.SinkFault → K.faults out.new ≡ K.faults out.old }
-    ensures printed { (seats : List SeatFacts) → Told (K.sent out.old) (K.sent out.new) (Prints (AreLines seats Command.Migrate (F.files shelf.old)) result) }
-    ensures migrated { result ≡ Status.Migrated → Told (F.files shelf.old) (F.files shelf.new) WritesClasses }
-    ensures balanced { (result ≡ Status.Balanced) → ⊥ }
-    ensures infeasible { (result ≡ Status.Infeasible) → ⊥ }
-    ensures used { (result ≡ Status.Usage) → ⊥ }
+/// Reads the classes, and makes them in format 2 and a line that says how many codes there are.
+pub(crate) fn prepare_migration<F: Shelf>(
+    alloc: Global,
+    shelf: &mut F,
+) -> Result<Prepared, Status>
+    ensures kept { Told (F.files shelf.old) (F.files shelf.new) SameFiles }
+    ensures ready { IfOk result (λ x. (seats : List SeatFacts) → IsReady seats Command.Migrate (F.files shelf.old) x.done (texts_in x.made.outputs.items) x.made.lines.items) }
+    ensures refused { IfErr result (λ s. (seats : List SeatFacts) → IsRefused seats Command.Migrate (F.files shelf.old) (F.faults shelf.old) (F.faults shelf.new) (F.last_failed shelf.new) s) }
+    ensures later { F.faults shelf.old ≤ F.faults shelf.new }
+    ensures stays { ¬ IsErrAnd result IsShelfFault → NoneFailed (F.faults shelf.old) (F.faults shelf.new) (F.last_failed shelf.old) (F.last_failed shelf.new) }
 {
     let classes = match read_classes_file(alloc, shelf) {
         Ok(classes) => classes,
-        Err(fault) => return refused(fault),
+        Err(fault) => return Err(refused(fault)),
     };
-    let prepared = prepare_classes(alloc, &classes);
+    let made = prepare_classes(alloc, &classes);
     drop(classes);
-    let made = match prepared {
-        Ok(made) => made,
-        Err(_) => return Status::NoMemory,
-    };
-    match deliver(shelf, out, &made) {
-        Ok(()) => Status::Migrated,
-        Err(stopped) => stopped,
+    match made {
+        Ok(made) => Ok(Prepared {
+            done: Status::Migrated,
+            made,
+        }),
+        Err(_) => Err(Status::NoMemory),
     }
 }

@@ -4,21 +4,52 @@ ghost use Rattle.std.specs.Prelude.{◌≡◌, ◌≢◌, ◌⊎◌, ◌↔◌, 
 ghost use Rattle.sut_outside.specs.Files.{Told};
 ghost use Rattle.sut_outside.specs.Causes.{NoneFailed, Rose};
 ghost use Rattle.sut_review.specs.Seats.{new_seat};
-ghost use Rattle.sut_run.specs.Commands.{command_of, read_names, written_names};
+ghost use Rattle.sut_run.specs.Commands.{IsSized, command_of, read_names, written_names};
 ghost use Rattle.sut_run.specs.Inputs.{input_of};
-ghost use Rattle.sut_run.specs.Ends.{AnswersInput, AreLines, IsDone, LeavesAll, Prints, Stands};
+ghost use Rattle.sut_run.specs.Ends.{AnswersInput, AreLines, IsDone, IsEndOf, LeavesAll, Prints, Stands};
 ghost use Rattle.sut_run.specs.Headlines.{Headline, IsChecked, MayBeInfeasible, WritesClasses, WritesCut, WritesLeast};
+ghost use Rattle.sut_run.specs.Ready.{Promises};
 ghost use Rattle.sut_run.specs.Steps.{IfReadFault, IfWriteFault, IsShelfFault};
 
-use crate::balancing::run_balance;
 use crate::commands::{Command, command_named};
-use crate::editing::run_edit;
-use crate::generating::run_generate;
-use crate::migrating::run_migrate;
+use crate::preparing::prepare_command;
+use crate::writing::deliver;
 use std::alloc::Global;
 use sut_outside::{Shelf, Sink};
 use sut_review::Reviewer;
 use sut_status::Status;
+
+// Reads what a command reads, makes all texts, writes them in order, and then prints the lines in one put.
+fn run_command<F: Shelf, K: Sink>(
+    alloc: Global,
+    command: Command,
+    shelf: &mut F,
+    out: &mut K,
+    reviewers: Vec<Box<dyn Reviewer>>,
+) -> Status
+    requires zero { All (λ b. marked b ≡ 0) reviewers.items }
+    requires sized { IsSized command }
+    ensures input { IfSome (F.files shelf.old) (λ files. AnswersInput (map (λ b. new_seat (name b) (rule b)) reviewers.items) command files result) }
+    ensures stands { Told (F.files shelf.old) (F.files shelf.new) (Stands (map (λ b. new_seat (name b) (rule b)) reviewers.items) command result (K.sent out.old) (K.sent out.new)) }
+    ensures read_fault { IfReadFault result (λ failed. Rose (F.faults shelf.old) (F.faults shelf.new) × (F.last_failed shelf.new ≡ Some failed) × Contains (read_names command) failed) }
+    ensures write_fault { IfWriteFault result (λ failed. Rose (F.faults shelf.old) (F.faults shelf.new) × (F.last_failed shelf.new ≡ Some failed) × Contains (written_names command) failed) }
+    ensures sink_fault { result ≡ Status.SinkFault → Rose (K.faults out.old) (K.faults out.new) }
+    ensures shelf_stays { ¬ IsShelfFault result → NoneFailed (F.faults shelf.old) (F.faults shelf.new) (F.last_failed shelf.old) (F.last_failed shelf.new) }
+    ensures sink_stays { result ≢ Status.SinkFault → K.faults out.new ≡ K.faults out.old }
+    ensures printed { Told (K.sent out.old) (K.sent out.new) (Prints (AreLines (map (λ b. new_seat (name b) (rule b)) reviewers.items) command (F.files shelf.old)) result) }
+    ensures ends { IsDone result → IsEndOf command result }
+    ensures promised { IsDone result → Told (F.files shelf.old) (F.files shelf.new) (Promises (map (λ b. new_seat (name b) (rule b)) reviewers.items) command result (K.sent out.old) (K.sent out.new)) }
+    ensures used { result ≢ Status.Usage }
+{
+    let prepared = match prepare_command(alloc, command, shelf, reviewers) {
+        Ok(prepared) => prepared,
+        Err(refused) => return refused,
+    };
+    match deliver(shelf, out, &prepared.made) {
+        Ok(()) => prepared.done,
+        Err(stopped) => stopped,
+    }
+}
 
 /// Runs the command that the words name, over a shelf of files and a sink of printed lines, with the reviewers that the
 /// caller hands in, none of which has marked a row yet. The words are accepted exactly where they are `balance`, or `edit`, or
@@ -91,20 +122,14 @@ pub fn run<F: Shelf, K: Sink>(
     // set contradicts, no table exists, and report and the last printed lines are of the same set.
     ensures infeasible { IfSome (command_of (map string_bytes words.now)) (λ c. result ≡ Status.Infeasible → MayBeInfeasible c × (IsChecked c → Told (F.files shelf.old) (F.files shelf.new) (Headline (map (λ b. new_seat (name b) (rule b)) reviewers.items) c (WritesCut (K.sent out.old) (K.sent out.new))))) }
 
+    // A run is done only with an answer of its command.
+    ensures ends { IfSome (command_of (map string_bytes words.now)) (λ c. IsDone result → IsEndOf c result) }
+
     // Migrated: the written classes read back as those at entry, in format 2.
     ensures migrated { result ≡ Status.Migrated → Told (F.files shelf.old) (F.files shelf.new) WritesClasses }
 {
     match command_named(words) {
-        Some(Command::Balance) => run_balance(alloc, shelf, out, reviewers),
-        Some(Command::Edit) => run_edit(alloc, shelf, out, reviewers),
-        Some(Command::Migrate) => {
-            drop(reviewers);
-            run_migrate(alloc, shelf, out)
-        }
-        Some(Command::Generate(seed, products, industries)) => {
-            drop(reviewers);
-            run_generate(alloc, seed, products, industries, shelf, out)
-        }
+        Some(command) => run_command(alloc, command, shelf, out, reviewers),
         None => {
             drop(reviewers);
             Status::Usage
