@@ -1,5 +1,5 @@
 -- A delivery after the reading part, and what each answer says.
-use Rattle.std.proofs.Common.{◌≡◌, ◌≤◌, ◌∙◌, ◌⊎◌, ℕ, ℤ, zero, suc, List, [], ◌∷◌, ◌++◌, map, length, Option, Some, None, Result, Ok, Err, Contains, IfSome, inl, inr, refl, sym, ap, subst, arith}
+use Rattle.std.proofs.Common.{◌≡◌, ◌≤◌, ◌∙◌, ◌⊎◌, ℕ, zero, suc, List, [], ◌∷◌, ◌++◌, map, length, Option, Some, None, Result, Ok, Err, Contains, IfSome, inl, inr, refl, sym, ap, subst, arith}
 use Rattle.std.specs.Prelude.{IsOk}
 use Rattle.sut_outside.specs.declared.names.FileName.{FileName}
 use Rattle.sut_outside.specs.declared.names.FileName.TheVariants.{SourceCsv, BalancedCsv, SupplyCsv, UseCsv, AccountsCsv, CertificateCsv, ReportJson}
@@ -10,10 +10,8 @@ use Rattle.sut_outside.proofs.Told.{same_files, told_as}
 use Rattle.sut_records.specs.FirstFault.{and_then, fault_as}
 use Rattle.sut_settings.specs.SettingsFacts.{SettingsFacts}
 use Rattle.sut_tables.specs.ProblemFacts.{ProblemFacts}
-use Rattle.sut_measures.specs.declared.accounts.Account.{Account}
-use Rattle.sut_tables.specs.TableFacts.{TableFacts}
 use Rattle.sut_write.specs.Answers.{HasAdmissibleTable}
-use Rattle.sut_cert.specs.Right.{IsRight, IsRightCut, IsRightTable}
+use Rattle.sut_cert.specs.Right.{IsRight}
 use Rattle.sut_cert.specs.declared.answers.Answer.{Answer}
 use Rattle.sut_cert.specs.declared.answers.Answer.TheVariants as answer
 use Rattle.sut_review.specs.Seats.{SeatFacts}
@@ -22,10 +20,10 @@ use Rattle.sut_input.specs.Reads.{FailsAmong, Refuses, Step}
 use Rattle.sut_input.specs.declared.faults.InputFault.{InputFault}
 use Rattle.sut_input.specs.declared.faults.InputFault.TheVariants as fault
 use Rattle.sut_status.specs.declared.statuses.Status.{Status}
-use Rattle.sut_status.specs.declared.statuses.Status.TheVariants.{Balanced, Generated, Migrated, Published, Ranged, Series, Shared, NoMemory, Usage, Infeasible, WriteFault, SinkFault}
+use Rattle.sut_status.specs.declared.statuses.Status.TheVariants.{Balanced, Generated, Migrated, Published, Ranged, Series, Shared, NoMemory, Infeasible, WriteFault, SinkFault}
 use Rattle.sut_run.specs.declared.commands.Command.{Command}
 use Rattle.sut_run.specs.declared.commands.Command.TheVariants.{Balance, Edit, Migrate, Generate}
-use Rattle.sut_run.specs.Commands.{answer_names, read_names, written_names}
+use Rattle.sut_run.specs.Commands.{answer_names, written_names}
 use Rattle.sut_run.specs.Inputs.{Given, for_balance, input_of, refused, to_balance}
 use Rattle.sut_editing.specs.Shown.{seats_shown}
 use Rattle.sut_run.specs.Deliveries.{Delivery, Gives, GivesAnswer, answer_files, review_files, status_of}
@@ -304,12 +302,6 @@ answer-ends (answer.Infeasible set) done ends = inr ends
 pub has-table : (p : ProblemFacts) (a : Answer) → IsRight p a → HasAdmissibleTable p a
 has-table p (answer.Balanced t ps) r = r.least.admissible
 has-table p (answer.Infeasible set) r = tt
-
-pub right-table : (p : ProblemFacts) (a : Answer) (t : TableFacts) (ps : List (Account × ℤ)) → a ≡ answer.Balanced t ps → IsRight p a → IsRightTable p t ps
-right-table p a t ps e r = subst (IsRight p) e r
-
-pub right-cut : (p : ProblemFacts) (a : Answer) (set : List Account) → a ≡ answer.Infeasible set → IsRight p a → IsRightCut p set
-right-cut p a set e r = subst (IsRight p) e r
 
 -- what reads back from a text reads back from the bytes that are it
 pub by-text : {A F : Type 0} (read : List ℕ → Result A F) (value : A) (bytes text : List ℕ) → bytes ≡ text → read bytes ≡ Ok value → read text ≡ Ok value

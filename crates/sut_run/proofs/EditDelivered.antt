@@ -1,12 +1,11 @@
 -- A run of edits: what each answer says.
-use Rattle.std.proofs.Common.{◌≡◌, ◌≤◌, ◌∙◌, ℕ, zero, suc, List, [], ◌∷◌, ◌++◌, map, Option, Some, None, Result, Ok, Err, All, Contains, IfSome, inl, refl, sym, ap, subst, arith}
+use Rattle.std.proofs.Common.{◌≡◌, ◌∙◌, ℕ, zero, suc, List, [], ◌∷◌, ◌++◌, map, Option, Some, None, Result, Ok, Err, Contains, IfSome, refl, ap, subst, arith}
 use Rattle.std.specs.Prelude.{option_map}
 use Rattle.std.specs.declared.vec.Vec.{Vec}
 use Rattle.sut_outside.specs.declared.names.FileName.{FileName}
 use Rattle.sut_outside.specs.declared.names.FileName.TheVariants.{EditedCsv, TrailCsv, ReviewCsv}
-use Rattle.sut_outside.specs.Files.{Files, SameFiles, Told}
+use Rattle.sut_outside.specs.Files.{Files, Told}
 use Rattle.sut_outside.specs.Causes.{Rose}
-use Rattle.sut_outside.proofs.Told.{told_as}
 use Rattle.sut_records.specs.FirstFault.{and_then, fault_as}
 use Rattle.sut_settings.specs.SettingsFacts.{SettingsFacts}
 use Rattle.sut_source.specs.SourceText.{source_text}
@@ -21,9 +20,9 @@ use Rattle.sut_input.specs.declared.faults.InputFault.TheVariants as fault
 use Rattle.sut_input.specs.declared.edits.EditInputFault.{EditInputFault}
 use Rattle.sut_input.specs.declared.edits.EditInputFault.TheVariants as edits
 use Rattle.sut_editing.specs.Moments.{IfRefused, Moments, moments_of, standing_labels}
-use Rattle.sut_editing.specs.Events.{Event, IsAnswer}
+use Rattle.sut_editing.specs.Events.{IsAnswer}
 use Rattle.sut_editing.specs.Answered.{EndsWith}
-use Rattle.sut_editing.specs.Shown.{rebalances_text, seats_after, trail_text}
+use Rattle.sut_editing.specs.Shown.{seats_after}
 use Rattle.sut_editing.specs.EditedRows.{IsEdited, review_of}
 use Rattle.sut_editing.specs.declared.faults.EditingFault.{EditingFault}
 use Rattle.sut_editing.specs.declared.faults.EditingFault.TheVariants as stop
@@ -34,7 +33,7 @@ use Rattle.sut_run.specs.declared.commands.Command.TheVariants.{Edit}
 use Rattle.sut_run.specs.Commands.{answer_names, read_names, written_names}
 use Rattle.sut_run.specs.Inputs.{edit_stopped, edits_refused, for_edit, input_of, to_edit}
 use Rattle.sut_run.specs.Outputs.{review_in}
-use Rattle.sut_run.specs.Deliveries.{GivesEdits, ReadsBack, SpellsSource, answer_files, edit_lines, edited_files, review_files, status_of}
+use Rattle.sut_run.specs.Deliveries.{GivesEdits, ReadsBack, SpellsSource, answer_files, review_files, status_of}
 use Rattle.sut_run.specs.Prepared.{IsPreparedEdit, PreparesEdit}
 use Rattle.sut_run.specs.Steps.{IfReadFault}
 use Rattle.sut_run.specs.Ends.{AnswersInput}

@@ -1,6 +1,6 @@
 -- What the written files of a run of edits say by themselves.
-use Rattle.std.proofs.Common.{◌≡◌, ◌≤◌, ◌∙◌, ℕ, ℤ, Bool, true, false, List, [], ◌∷◌, ◌++◌, Option, Some, None, Result, Ok, Err, IfSome, length, map, refl, sym, ap, subst}
-use Rattle.std.specs.Prelude.{IsTrue, if◌then◌else◌, nat_le}
+use Rattle.std.proofs.Common.{◌≡◌, ◌∙◌, ℕ, Bool, false, List, [], ◌∷◌, ◌++◌, Option, Some, None, Result, Ok, Err, IfSome, length, map, refl, sym, ap, subst}
+use Rattle.std.specs.Prelude.{if◌then◌else◌}
 use Rattle.std.proofs.lemmas.Bool.{le-leb}
 use Rattle.sut_outside.specs.declared.names.FileName.{FileName}
 use Rattle.sut_outside.specs.declared.names.FileName.TheVariants.{SettingsToml, ClassesCsv, SourceCsv, EditedCsv, TrailCsv, ReviewCsv}
@@ -14,7 +14,7 @@ use Rattle.sut_settings.specs.SettingsFacts.{SettingsFacts}
 use Rattle.sut_settings.specs.SettingsFile.{settings_of}
 use Rattle.sut_classes.specs.ClassLists.{ClassLists}
 use Rattle.sut_classes.specs.ClassFile.{classes_of}
-use Rattle.sut_source.specs.SourceFile.{problem_from, source_line, source_of, under_header}
+use Rattle.sut_source.specs.SourceFile.{source_of, under_header}
 use Rattle.sut_source.specs.SourceText.{source_text}
 use Rattle.sut_source.specs.declared.faults.SourceFault.{SourceFault}
 use Rattle.sut_tables.specs.ProblemFacts.{ProblemFacts}

@@ -1,5 +1,5 @@
 -- The delivery of classes in format 2.
-use Rattle.std.proofs.Common.{◌≡◌, ◌∙◌, ℕ, zero, suc, List, ◌∷◌, [], Option, None, Some, Ok, Contains, IfSome, map, refl, ap, sym, subst, arith}
+use Rattle.std.proofs.Common.{◌≡◌, ℕ, List, ◌∷◌, [], Option, None, Some, Ok, Contains, IfSome, map, refl, ap, sym, subst, arith}
 use Rattle.sut_outside.specs.declared.names.FileName.{FileName}
 use Rattle.sut_outside.specs.declared.names.FileName.TheVariants.{ClassesCsv, Classes2Csv}
 use Rattle.sut_outside.specs.Files.{Files, Told}

@@ -1,5 +1,5 @@
 -- What a run printed, by its answer, and calls of devices of which none failed.
-use Rattle.std.proofs.Common.{◌≡◌, ℕ, List, Option, Some, None, Err, IfSome, refl, sym, subst}
+use Rattle.std.proofs.Common.{◌≡◌, ℕ, List, Option, Some, Err, IfSome, sym, subst}
 use Rattle.sut_outside.specs.declared.names.FileName.{FileName}
 use Rattle.sut_outside.specs.Files.{Files, Told}
 use Rattle.sut_outside.specs.Sent.{AppendsPart}

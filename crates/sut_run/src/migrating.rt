@@ -60,10 +60,7 @@ fn prepare_classes(alloc: Global, classes: &Classes) -> Result<Made, NoMemory>
 }
 
 /// Reads the classes, and makes them in format 2 and a line that says how many codes there are.
-pub(crate) fn prepare_migration<F: Shelf>(
-    alloc: Global,
-    shelf: &mut F,
-) -> Result<Prepared, Status>
+pub(crate) fn prepare_migration<F: Shelf>(alloc: Global, shelf: &mut F) -> Result<Prepared, Status>
     ensures kept { Told (F.files shelf.old) (F.files shelf.new) SameFiles }
     ensures ready { IfOk result (λ x. (seats : List SeatFacts) → IsReady seats Command.Migrate (F.files shelf.old) x.done (texts_in x.made.outputs.items) x.made.lines.items) }
     ensures refused { IfErr result (λ s. (seats : List SeatFacts) → IsRefused seats Command.Migrate (F.files shelf.old) (F.faults shelf.old) (F.faults shelf.new) (F.last_failed shelf.new) s) }

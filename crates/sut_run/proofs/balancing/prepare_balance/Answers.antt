@@ -5,6 +5,8 @@ use Rattle.sut_run.specs.Outputs.{texts_in}
 use Rattle.sut_run.specs.Ready.{IsRefused}
 use Rattle.sut_run.proofs.Delivered.{balance-refused, memory-refused}
 use Rattle.sut_run.proofs.Headlined.{answer-ready}
+use Rattle.sut_run.specs.Steps.{IsShelfFault}
+use Rattle.sut_run.proofs.Printed.{refused-failed}
 use Rattle.sut_run.proofs.balancing.prepare_balance.Goals as goal
 
 pub returns-in-Err-clause-refused : goal.returns-in-Err-clause-refused
@@ -17,3 +19,7 @@ returns-in-Ok-prepared-clause-ready g c =
 
 pub returns-in-Err-prepared-clause-refused : goal.returns-in-Err-prepared-clause-refused
 returns-in-Err-prepared-clause-refused g c = memory-refused (map (λ b. new_seat ((g.dyn-1.0.entry b.vtable).1.name b.value) ((g.dyn-1.0.entry b.vtable).1.rule b.value)) c.args.reviewers.items) Balance (g.F.Shelf.files c.args.shelf.now) _ _ _
+
+pub returns-in-Err-clause-stays : goal.returns-in-Err-clause-stays
+returns-in-Err-clause-stays g c other =
+    c.in-Err.ensures.stays (λ is. other (subst IsShelfFault (sym c.refused.ensures) (refused-failed c.in-Err.fault is)))

@@ -1,4 +1,4 @@
-use Rattle.std.proofs.Common.{◌≡◌, map, sym, subst}
+use Rattle.std.proofs.Common.{map, subst}
 use Rattle.sut_outside.proofs.NoneFailed.{both_stay}
 use Rattle.sut_review.specs.Seats.{new_seat}
 use Rattle.sut_run.specs.declared.writing.Output.{Output}
