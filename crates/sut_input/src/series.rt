@@ -145,7 +145,8 @@ fn read_years<F: Shelf>(
         match read_year(alloc, shelf, year_name(before), before + 1, settings, classes) {
             Ok(problem) => match problems.push(problem) {
                 Ok(()) => (),
-                Err(_) => {
+                Err(full) => {
+                    drop(full);
                     drop(problems);
                     return Err(SeriesInputFault::Input(InputFault::NoMemory));
                 }
