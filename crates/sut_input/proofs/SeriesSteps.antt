@@ -1,5 +1,5 @@
 -- The years of a series, read one after another, and what is read before and after them.
-use Rattle.std.proofs.Common.{◌≡◌, ◌≢◌, ◌<◌, ◌≤◌, ◌∙◌, ◌+◌, ℕ, zero, suc, false, List, [], ◌∷◌, ◌++◌, Option, Some, None, Result, Ok, Err, Contains, IfSome, length, take, ap, sym, refl, subst, arith, if◌then◌else◌, add-one}
+use Rattle.std.proofs.Common.{◌≡◌, ◌≢◌, ◌<◌, ◌≤◌, ◌∙◌, ◌+◌, ℕ, false, List, [], ◌∷◌, ◌++◌, Option, Some, None, Result, Ok, Err, Contains, IfSome, length, take, ap, sym, refl, subst, arith, if◌then◌else◌, add-one}
 use Rattle.std.specs.Prelude.{slice_get}
 use Rattle.std.specs.List.{AllByRecursion}
 use Rattle.sut_outside.specs.declared.names.FileName.{FileName}
@@ -30,7 +30,7 @@ use Rattle.sut_input.specs.declared.series.SeriesInputFault.TheVariants.{Input, 
 use Rattle.sut_input.specs.Reads.{GivesOk, Refuses}
 use Rattle.sut_input.specs.Inputs.{classes_in, read_bytes, settings_in}
 use Rattle.sut_input.specs.Following.{IfReadFailed, RefusesAs, failed_read}
-use Rattle.sut_input.specs.SeriesInputs.{IsSeriesFault, class_years_in, dismiss_fault, dismiss_unless_no_memory, dismissals_in, series_input_in, series_part, year_fault, year_in, year_names, year_unless_no_memory, years_in}
+use Rattle.sut_input.specs.SeriesInputs.{class_years_in, dismiss_fault, dismiss_unless_no_memory, dismissals_in, series_input_in, series_part, year_fault, year_in, year_names, year_unless_no_memory, years_in}
 use Rattle.sut_input.proofs.FollowingSteps as steps
 use Rattle.sut_input.proofs.YearNames.{not-classes, not-dismissals, not-settings, others-before, so-many, split-at, take-one}
 
@@ -44,8 +44,8 @@ dismiss-cause P dismiss.WrongYear e none some = some (λ x. cc)
 dismiss-cause P dismiss.TooMany e none some = some (λ x. cc)
 dismiss-cause P dismiss.NoReviewer e none some = some (λ x. cc)
 
-year-cause : (P : SeriesInputFault → Type 0) (cause : RowFault) (k : ℕ) (e : SourceFault) → P (Input input.NoMemory) → (cause ≢ row.NoMemory → P (BadYear k e)) → P (year_unless_no_memory cause k e)
-year-cause P row.NoMemory k e none some = none
+year-cause : (P : SeriesInputFault → Type 0) (cause : RowFault) (k : ℕ) (e : SourceFault) → (cause ≡ row.NoMemory → P (Input input.NoMemory)) → (cause ≢ row.NoMemory → P (BadYear k e)) → P (year_unless_no_memory cause k e)
+year-cause P row.NoMemory k e none some = none refl
 year-cause P row.Csv k e none some = some (λ x. cc)
 year-cause P row.Header k e none some = some (λ x. cc)
 year-cause P row.UnknownKind k e none some = some (λ x. cc)
@@ -61,19 +61,9 @@ year-cause P row.Crossed k e none some = some (λ x. cc)
 year-cause P (row.Duplicate n) k e none some = some (λ x. cc)
 year-cause P row.TooMany k e none some = some (λ x. cc)
 
--- they are no failed reads
-pub dismiss-no-read : (P : FileName → Type 0) (e : DismissFault) → IfReadFailed (series_part (dismiss_fault e)) P
-dismiss-no-read P e = dismiss-cause (λ f. IfReadFailed (series_part f) P) e.cause e tt (λ other. tt)
-
-pub year-no-read : (P : FileName → Type 0) (k : ℕ) (e : SourceFault) → IfReadFailed (series_part (year_fault k e)) P
-year-no-read P k e = year-cause (λ f. IfReadFailed (series_part f) P) e.cause k e tt (λ other. tt)
-
--- they are faults of a series
-pub dismiss-told : (e : DismissFault) → e.cause ≢ dismiss.NoReviewer → IsSeriesFault (dismiss_fault e)
-dismiss-told e known = dismiss-cause IsSeriesFault e.cause e tt (λ other. (other, known))
-
-pub year-told : (k : ℕ) (e : SourceFault) → IsSeriesFault (year_fault k e)
-year-told k e = year-cause IsSeriesFault e.cause k e tt (λ other. other)
+-- a fault of a source but want of memory, with its year
+pub year-named : (k : ℕ) (e : SourceFault) → e.cause ≢ row.NoMemory → BadYear k e ≡ year_fault k e
+year-named k e other = year-cause (λ f. BadYear k e ≡ f) e.cause k e (λ lack. absurd (other lack)) (λ _. refl)
 
 -- ---- the dismissals
 
@@ -115,6 +105,10 @@ rows-classes cs q (Err e) make each h = absurd cc
 pub source-classes : (s : SettingsFacts) (cs : ClassLists) (bytes : List ℕ) (q : ProblemFacts) → Ok q ≡ source_of s cs bytes → q.classes ≡ cs
 source-classes s cs bytes q h = under-classes cs q (under_header (records_of bytes)) _ (λ lines x e. rows-classes cs x _ _ (λ rows. refl) e) (sym h)
 
+-- what was read under classes and bytes that are equal to these
+pub same-source : (s : SettingsFacts) (own cs : ClassLists) (seen bytes : List ℕ) (r : Result ProblemFacts SourceFault) → r ≡ source_of s own seen → own ≡ cs → seen ≡ bytes → r ≡ source_of s cs bytes
+same-source s own cs seen bytes r h e f = h ∙ ap (λ (c : ClassLists). source_of s c seen) e ∙ ap (source_of s cs) f
+
 module _ (name : FileName) (k : ℕ) (s : SettingsFacts) (cs : ClassLists) where
   pub year-not-read : (held : Option Files) (fault : InputFault) → IfSome held (λ files. Refuses (λ failed told. read_bytes failed told name) files fault)
       → IfSome held (λ files. RefusesAs series_part (year_in name k s cs) files (Input fault))
@@ -133,7 +127,7 @@ module _ (name : FileName) (k : ℕ) (s : SettingsFacts) (cs : ClassLists) where
   pub year-refused : (held : Option Files) (bytes : List ℕ) (e : SourceFault) → IfSome held (λ files. GivesOk (λ failed told. read_bytes failed told name) files bytes)
       → (e.cause ≢ row.NoMemory → Err e ≡ source_of s cs bytes) → IfSome held (λ files. RefusesAs series_part (year_in name k s cs) files (year_fault k e))
   year-refused None bytes e h r = tt
-  year-refused (Some files) bytes e h r = year-cause (RefusesAs series_part (year_in name k s cs) files) e.cause k e tt (λ other. year-bad files bytes e h (r other))
+  year-refused (Some files) bytes e h r = year-cause (RefusesAs series_part (year_in name k s cs) files) e.cause k e (λ lack. tt) (λ other. year-bad files bytes e h (r other))
 
   -- another read that fails leaves it as it is
   year-still : (failed : FileName) (files : Files) → same_name failed name ≡ false → year_in name k s cs (Some failed) files ≡ year_in name k s cs None files

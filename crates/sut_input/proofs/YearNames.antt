@@ -1,14 +1,14 @@
 -- The names of the files of a series.
-use Rattle.std.proofs.Common.{◌≡◌, ◌<◌, ◌≤◌, ◌∙◌, ◌+◌, ℕ, zero, suc, false, List, [], ◌∷◌, ◌++◌, Some, Contains, All, length, take, get_or, ap, sym, refl, subst, arith}
+use Rattle.std.proofs.Common.{◌≡◌, ◌<◌, ◌≤◌, ◌∙◌, ℕ, zero, suc, false, List, [], ◌∷◌, ◌++◌, Some, Contains, All, length, take, get_or, ap, sym, refl, subst, arith}
 use Rattle.std.specs.Prelude.{slice_get}
 use Rattle.std.specs.List.{AllByRecursion}
 use Rattle.std.proofs.lemmas.List.{get_or-take, length-take, length-take-le}
 use Rattle.std.proofs.lemmas.List.Elements.{All-contains, All-from_recursion}
 use Rattle.std.proofs.lemmas.Option.{get_or_from_slice_get, slice_get_within}
 use Rattle.sut_outside.specs.declared.names.FileName.{FileName}
-use Rattle.sut_outside.specs.declared.names.FileName.TheVariants.{SettingsToml, ClassesCsv, Year1Csv, Year2Csv, Year3Csv, Year4Csv, Year5Csv, Year6Csv, Year7Csv, Year8Csv, Year9Csv, DismissCsv}
+use Rattle.sut_outside.specs.declared.names.FileName.TheVariants.{SettingsToml, ClassesCsv, Year2Csv, Year3Csv, Year4Csv, Year5Csv, Year6Csv, Year7Csv, Year8Csv, Year9Csv, DismissCsv}
 use Rattle.sut_outside.specs.Deliveries.{same_name}
-use Rattle.sut_input.specs.SeriesInputs.{series_names, year_names}
+use Rattle.sut_input.specs.SeriesInputs.{year_names}
 use Rattle.sut_input.proofs.FollowingSteps.{only-one}
 
 -- ---- lists
@@ -38,10 +38,6 @@ taken P (x ∷ xs) zero h = tt
 taken P (x ∷ xs) (suc n) h = (h.0, taken P xs n h.1)
 
 -- ---- names in a list
-
-pub head-name : (name : FileName) (names : List FileName) (n : FileName) → Contains (name ∷ []) n → Contains (name ∷ names) n
-head-name name names n (zero, below, is) = (0, omega arith, is)
-head-name name names n (suc k, below, is) = absurd (omega arith)
 
 pub tail-name : (name : FileName) (names : List FileName) (n : FileName) → Contains names n → Contains (name ∷ names) n
 tail-name name names n (k, below, is) = (suc k, omega arith, is)

@@ -1,14 +1,10 @@
-use Rattle.std.proofs.Common.{◌≡◌, ◌∙◌, Result, Ok, Err, ap, subst, sym}
+use Rattle.std.proofs.Common.{◌∙◌, subst, sym}
 use Rattle.std.specs.Prelude.{IfSome}
 use Rattle.sut_outside.specs.Files.{Files}
-use Rattle.sut_classes.specs.ClassLists.{ClassLists}
-use Rattle.sut_tables.specs.ProblemFacts.{ProblemFacts}
-use Rattle.sut_source.specs.SourceFile.{source_of}
-use Rattle.sut_source.specs.declared.faults.SourceFault.{SourceFault}
 use Rattle.sut_input.specs.declared.series.SeriesInputFault.{SeriesInputFault}
 use Rattle.sut_input.specs.Following.{RefusesAs}
 use Rattle.sut_input.specs.SeriesInputs.{series_part, year_in}
-use Rattle.sut_input.proofs.SeriesSteps.{source-classes, year-given, year-not-read, year-refused}
+use Rattle.sut_input.proofs.SeriesSteps.{same-source, source-classes, year-given, year-not-read, year-refused}
 use Rattle.sut_input.proofs.series.read_year.Goals as goal
 
 pub returns-in-Err-clause-err : goal.returns-in-Err-clause-err
@@ -17,7 +13,7 @@ returns-in-Err-clause-err g c = year-not-read c.args.name c.args.year c.args.set
 pub returns-in-Ok-read_source-clause-ok : goal.returns-in-Ok-read_source-clause-ok
 returns-in-Ok-read_source-clause-ok g c =
     year-given c.args.name c.args.year c.args.settings.now c.args.classes.now (g.F.Shelf.files c.args.shelf.now) c.in-Ok.bytes.items c.in-Ok-read_source.problem c.in-Ok.ensures.ok
-    (c.in-Ok-read_source.ensures.value tt ∙ ap (source_of c.args.settings.now c.in-Ok-copy.own) c.deref.ensures.value ∙ ap (λ (cs : ClassLists). source_of c.args.settings.now cs c.in-Ok.bytes.items) c.in-Ok-copy.ensures)
+    (same-source c.args.settings.now c.in-Ok-copy.own c.args.classes.now c.deref.result.now c.in-Ok.bytes.items _ (c.in-Ok-read_source.ensures.value tt) c.in-Ok-copy.ensures c.deref.ensures.value)
 
 pub returns-in-Ok-read_source-clause-classes : goal.returns-in-Ok-read_source-clause-classes
 returns-in-Ok-read_source-clause-classes g c =
@@ -28,4 +24,4 @@ returns-clause-err g c =
     let P : SeriesInputFault → Type 0 = λ f. IfSome (g.F.Shelf.files c.args.shelf.now) (λ (files : Files). RefusesAs series_part (year_in c.args.name c.args.year c.args.settings.now c.args.classes.now) files f) in
     subst P (sym c.year_fault.ensures)
     (year-refused c.args.name c.args.year c.args.settings.now c.args.classes.now (g.F.Shelf.files c.args.shelf.now) c.in-Ok.bytes.items c.in-Err-read_source.fault c.in-Ok.ensures.ok
-    (λ lack. c.in-Err-read_source.ensures.value lack ∙ ap (source_of c.args.settings.now c.in-Ok-copy.own) c.deref.ensures.value ∙ ap (λ (cs : ClassLists). source_of c.args.settings.now cs c.in-Ok.bytes.items) c.in-Ok-copy.ensures))
+    (λ lack. same-source c.args.settings.now c.in-Ok-copy.own c.args.classes.now c.deref.result.now c.in-Ok.bytes.items _ (c.in-Err-read_source.ensures.value lack) c.in-Ok-copy.ensures c.deref.ensures.value))

@@ -1,4 +1,4 @@
-use Rattle.std.proofs.Common.{◌≡◌, ◌+◌, ◌∙◌, List, [], ◌∷◌, ◌++◌, All, IfSome, None, Ok, length, take, ap, arith, subst, sym}
+use Rattle.std.proofs.Common.{◌≡◌, ◌+◌, ◌∙◌, ℕ, List, [], ◌∷◌, All, IfSome, None, Ok, length, take, ap, arith, subst, sym}
 use Rattle.std.proofs.lemmas.List.{length_push}
 use Rattle.std.proofs.lemmas.List.Elements.{All-nil, All-push}
 use Rattle.sut_outside.specs.Files.{Files}
@@ -63,3 +63,13 @@ pub returns-in-Err-clause-cause : goal.returns-in-Err-clause-cause
 returns-in-Err-clause-cause g c =
     fails-later series_part (c.year_name.result ∷ []) (take c.args.years year_names) (year-among c.args.years c.years.before c.year_name.result (omega arith) c.year_name.ensures)
     (g.F.Shelf.faults c.args.shelf.now) (g.F.Shelf.faults c.years.shelf) (g.F.Shelf.faults c.read_year.new.shelf) (g.F.Shelf.last_failed c.read_year.new.shelf) c.in-Err.fault (omega (arith, c.years.invariant.none_failed.count)) c.in-Err.ensures.cause
+
+pub returns-clause-ok : goal.returns-clause-ok
+returns-clause-ok g c =
+    let all : c.years.before ≡ c.args.years = omega arith in
+    subst (λ (n : ℕ). IfSome (g.F.Shelf.files c.args.shelf.now) (λ (files : Files). years_in (take n year_names) 1 c.args.settings.now c.args.classes.now None files ≡ Ok c.years.problems.items)) all c.years.invariant.read
+
+pub returns-clause-number : goal.returns-clause-number
+returns-clause-number g c =
+    let all : c.years.before ≡ c.args.years = omega arith in
+    c.years.invariant.number ∙ all

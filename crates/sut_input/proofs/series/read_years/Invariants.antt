@@ -1,4 +1,4 @@
-use Rattle.std.proofs.Common.{◌≡◌, ◌≤◌, All, IfSome, None, Ok, length, take}
+use Rattle.std.proofs.Common.{◌≡◌, All, IfSome, None, Ok, length, take}
 use Rattle.sut_outside.specs.Causes.{NoneFailed}
 use Rattle.sut_outside.specs.Files.{Files, SameFiles, Told}
 use Rattle.sut_source.specs.SourceText.{HasGrade}
