@@ -225,9 +225,9 @@ module _ (s : SettingsFacts) (cs : ClassLists) where
       let at : before + 1 ≡ 1 + length (take before year_names) = omega (arith, so-many before few) in
       let names = split-at year_names before years name below is in
       let given : years_in (take before year_names) 1 s cs failed files ≡ Ok ps =
-          steps.given-part (years_in (take before year_names) 1 s cs) files ps (Contains (name ∷ []))
-          (λ n q. years-still (take before year_names) 1 n files (subst (λ (m : FileName). AllByRecursion (λ x. same_name m x ≡ false) (take before year_names)) (sym (steps.only-one name n q)) (others-before before name is)))
-          (series_part fault) only e in
+      steps.given-part (years_in (take before year_names) 1 s cs) files ps (Contains (name ∷ []))
+      (λ n q. years-still (take before year_names) 1 n files (subst (λ (m : FileName). AllByRecursion (λ x. same_name m x ≡ false) (take before year_names)) (sym (steps.only-one name n q)) (others-before before name is)))
+      (series_part fault) only e in
       steps.unless-as (year_in name (before + 1) s cs failed files ≡ Err fault) (years_in (take years year_names) 1 s cs failed files ≡ Err fault)
       (λ r. subst (λ (ns : List FileName). years_in ns 1 s cs failed files ≡ Err fault) (sym names.1)
       (year-fails (take before year_names) names.0 name 1 failed files ps fault given (subst (λ (n : ℕ). year_in name n s cs failed files ≡ Err fault) at r)))

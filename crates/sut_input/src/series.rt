@@ -1,6 +1,6 @@
 //! The problems of the years of a series, and the dismissals of reviewers after them.
 
-ghost use Rattle.std.specs.Prelude.{◌≡◌, ◌≢◌, ◌≤◌, ◌<◌, ◌+◌, ◌∷◌, [], All, IfErr, IfOk, IfSome, IsErrAnd, None, Ok, Some, length, slice_get, take};
+ghost use Rattle.std.specs.Prelude.{◌≡◌, ◌≤◌, ◌<◌, ◌∷◌, [], All, IfErr, IfOk, IfSome, IsErrAnd, None, Ok, Some, length, slice_get, take};
 ghost use Rattle.sut_outside.specs.Causes.{NoneFailed};
 ghost use Rattle.sut_outside.specs.Files.{Told, SameFiles};
 ghost use Rattle.sut_classes.specs.ClassLists.{ClassLists};
@@ -142,7 +142,14 @@ fn read_years<F: Shelf>(
 {
     let mut problems = Vec::new(alloc);
     'years: for before in 0..years {
-        match read_year(alloc, shelf, year_name(before), before + 1, settings, classes) {
+        match read_year(
+            alloc,
+            shelf,
+            year_name(before),
+            before + 1,
+            settings,
+            classes,
+        ) {
             Ok(problem) => match problems.push(problem) {
                 Ok(()) => (),
                 Err(full) => {

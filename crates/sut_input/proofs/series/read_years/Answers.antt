@@ -16,7 +16,7 @@ use Rattle.sut_input.proofs.series.read_years.Goals as goal
 pub years-init : goal.years-init
 years-init g c =
     let held = g.F.Shelf.files c.args.shelf.now in
-    let empty = sym c.new-problems.ensures.items in
+    let empty = sym {A = List ProblemFacts} c.new-problems.ensures.items in
     record {
       kept = told-self held;
       read = subst (λ (ps : List ProblemFacts). IfSome held (λ (files : Files). years_in (take 0 year_names) 1 c.args.settings.now c.args.classes.now None files ≡ Ok ps)) empty (none-read c.args.settings.now c.args.classes.now held);
@@ -29,15 +29,15 @@ years-init g c =
 pub years-preserved : goal.years-preserved
 years-preserved g c =
     let held = g.F.Shelf.files c.args.shelf.now in
-    let more = sym c.in-Ok-push.ensures.items in
+    let more = sym {A = List ProblemFacts} c.in-Ok-push.ensures.items in
     let before = c.years.before in
     let p = c.in-Ok.problem in
     record {
       kept = kept-twice _ _ _ c.years.invariant.kept c.read_year.ensures.kept;
       read =
-        subst (λ (ps : List ProblemFacts). IfSome held (λ (files : Files). years_in (take (before + 1) year_names) 1 c.args.settings.now c.args.classes.now None files ≡ Ok ps)) more
-        (next-read c.args.settings.now c.args.classes.now held before c.year_name.result c.years.problems.items p (omega arith) c.year_name.ensures c.years.invariant.read
-        (told-back (λ (files : Files). year_in c.year_name.result (before + 1) c.args.settings.now c.args.classes.now None files ≡ Ok p) _ _ c.years.invariant.kept c.in-Ok.ensures.ok));
+          subst (λ (ps : List ProblemFacts). IfSome held (λ (files : Files). years_in (take (before + 1) year_names) 1 c.args.settings.now c.args.classes.now None files ≡ Ok ps)) more
+          (next-read c.args.settings.now c.args.classes.now held before c.year_name.result c.years.problems.items p (omega arith) c.year_name.ensures c.years.invariant.read
+          (told-back (λ (files : Files). year_in c.year_name.result (before + 1) c.args.settings.now c.args.classes.now None files ≡ Ok p) _ _ c.years.invariant.kept c.in-Ok.ensures.ok));
       number = ap length c.in-Ok-push.ensures.items ∙ length_push c.years.problems.items p ∙ ap (λ n. n + 1) c.years.invariant.number;
       classes = subst (All (λ (p : ProblemFacts). p.classes ≡ c.args.classes.now)) more (All-push (λ (p : ProblemFacts). p.classes ≡ c.args.classes.now) c.years.problems.items p c.years.invariant.classes c.in-Ok.ensures.classes);
       graded = subst (All (λ (p : ProblemFacts). All (HasGrade c.args.settings.now) p.rows)) more (All-push (λ (p : ProblemFacts). All (HasGrade c.args.settings.now) p.rows) c.years.problems.items p c.years.invariant.graded c.in-Ok.ensures.graded);
