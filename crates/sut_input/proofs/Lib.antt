@@ -4,3 +4,5 @@ pub mod EditSteps
 pub mod FollowingSteps
 pub mod TableSteps
 pub mod AskSteps
+pub mod YearNames
+pub mod SeriesSteps

@@ -4,3 +4,4 @@ pub mod EditInputs
 pub mod Following
 pub mod TableInputs
 pub mod AskInputs
+pub mod SeriesInputs

@@ -1,4 +1,4 @@
-//! Tests of the readers of a year's files, of edits, of asks, of dismissals, and of what is printed.
+//! Tests of the readers of a year's files, of edits, of asks, of dismissals, of a series, and of what is printed.
 #![tactic(auto)]
 
 #[cfg(test)]
@@ -19,6 +19,8 @@ mod made;
 mod prints;
 #[cfg(test)]
 mod records;
+#[cfg(test)]
+mod series;
 #[cfg(test)]
 mod settings;
 #[cfg(test)]
