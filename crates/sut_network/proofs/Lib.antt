@@ -1,0 +1,5 @@
+pub mod Balanced
+pub mod ByAccount
+pub mod Grown
+pub mod Put
+pub mod Scaled
